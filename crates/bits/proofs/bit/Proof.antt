@@ -1,0 +1,20 @@
+-- `bits::bit` meets its contract: a shift to the right is a division by a power of two. Assumes nothing.
+use borrow.Author.Needs.{needs}
+use Rattle.bits.specs.Bits.{bitOf}
+use Rattle.bits.specs.Bits.Laws.{bit-past}
+use Rattle.bits.proofs.bit.Statement.{statement}
+use Rattle.bits.proofs.bit.Tie as tie
+use mathlib.Core.Path.{refl, sym}
+
+shr-result : tie.Need-shr-result
+shr-result c = search needs
+
+returns : tie.Need-returns
+unfolding bitOf
+returns c = refl
+
+returns-2 : tie.Need-returns-2
+returns-2 c = sym (bit-past 64 (c .before .fits .n .fits) (c .if1 .left))
+
+pub bit-spec : {M : Type 1} → statement M
+bit-spec = tie.close (tie.spec shr-result returns returns-2)

@@ -1,0 +1,71 @@
+-- What bits taken low first add up to, once for every width. Assumes nothing.
+use mathlib.Core.Path.{_≡_, refl, sym, ap, _∙_}
+use mathlib.Core.Bool.{false}
+use Prim.Native.Nat.{ℕ, zero, suc, _+_, _-_, _*_, _/_, _%_, _^_, _≤_, _<_}
+use native.Mathlib.Nat.{pow-succ', div-one, div-div-eq-div-mul, mod-one, mod-eq-of-lt, div-eq-of-lt, add-mul-div-right, mul-assoc, add-suc, suc-add, add-zero, zero-add, le-of-suc-le-suc, not-suc-le-zero, lt-of-lt-of-le, zero-mul, mul-one, add-mul, mul-left-comm, add-assoc}
+use native.Mathlib.Omega.{arith}
+use native.Mathlib.Numerals.{add-one}
+use lib.Dec.{eqb}
+use lib.ListN.{length, getD}
+use lib.Pow.{pow-pos, pow-mono, pow-add, mod-pow-add}
+use Rattle.bits.specs.Bits.{digit, bitOf, bitsOf, numberOf, shiftIn, shiftAll}
+
+-- bit i + 1 of a number is bit i of its half
+pub bit-suc : (n i : ℕ) → bitOf n (suc i) ≡ bitOf (n / 2) i
+unfolding bitOf
+bit-suc n i = simp (pow-succ', ← div-div-eq-div-mul)
+
+-- past its top a number has only zeros
+pub bit-past : (w : ℕ) {n i : ℕ} → n < 2 ^ w → w ≤ i → bitOf n i ≡ false
+unfolding bitOf
+bit-past w {n} {i} fits past =
+    let small : n < 2 ^ i = lt-of-lt-of-le fits (pow-mono past) in
+    rw (div-eq-of-lt small)
+
+-- the lowest bit, as a number, is the remainder by 2
+pub digit-bit : (n : ℕ) → digit (bitOf n 0) ≡ n % 2
+unfolding bitOf
+digit-bit n = rw (div-one n) (cases (n % 2) (omega arith))
+  where
+    cases : (r : ℕ) → r < 2 → digit (eqb r 1) ≡ r
+    cases zero h = refl
+    cases (suc zero) h = refl
+    cases (suc (suc r)) h = absurd (not-suc-le-zero (le-of-suc-le-suc (le-of-suc-le-suc h)))
+
+-- the low w + 1 bits: the lowest, and w bits of the half
+mod-pow-suc : (n w : ℕ) → n % 2 ^ suc w ≡ n % 2 + 2 * (n / 2 % 2 ^ w)
+mod-pow-suc n w = omega (arith, rw add-one at (mod-pow-add n w 1))
+
+-- w bits of a number, low first, are the number below 2 ^ w
+pub number-bits : (w n : ℕ) → numberOf (bitsOf w n) ≡ n % 2 ^ w
+unfolding numberOf bitsOf
+number-bits zero n = sym (mod-one n)
+number-bits (suc w) n = rw (digit-bit, number-bits w (n / 2), mod-pow-suc)
+
+-- there are w of them, and the one at i is bit i
+pub length-bits : (w n : ℕ) → length (bitsOf w n) ≡ w
+unfolding bitsOf
+length-bits zero n = refl
+length-bits (suc w) n = ap suc (length-bits w (n / 2))
+
+pub bits-at : (w n i : ℕ) → i < w → getD (bitsOf w n) i false ≡ bitOf n i
+unfolding bitsOf
+bits-at zero n i h = absurd (not-suc-le-zero h)
+bits-at (suc w) n zero h = refl
+bits-at (suc w) n (suc i) h = bits-at w (n / 2) i (le-of-suc-le-suc h) ∙ sym (bit-suc n i)
+
+spread : (d a p : ℕ) → d * p + a * (2 * p) ≡ (d + 2 * a) * p
+spread d a p = simp (add-mul, mul-assoc, mul-left-comm)
+
+-- k bits of n heard by a register of k + m bits: they stand at its top, above what is left of what it held
+shifted : (k m r n : ℕ) → shiftAll (k + m) r (bitsOf k n) ≡ r / 2 ^ k + n % 2 ^ k * 2 ^ m
+unfolding shiftAll bitsOf shiftIn
+shifted zero m r n = rw (div-one, mod-one) (omega (arith, zero-mul (2 ^ m)))
+shifted (suc k) m r n =
+    let top : k + suc m - 1 ≡ m + k = omega arith in
+    rw (suc-add k m, ← add-suc k m, shifted k (suc m), shiftIn, top, pow-add 2 m k, ← mul-assoc, add-mul-div-right _ _ (pow-pos k))
+    (rw (div-div-eq-div-mul, ← pow-succ', digit-bit, mod-pow-suc, pow-succ' 2 m, add-assoc, spread))
+
+-- a register of w bits that hears w bits of a number holds the number, whatever it held before
+pub heard-whole : (w : ℕ) {r n : ℕ} → r < 2 ^ w → n < 2 ^ w → shiftAll w r (bitsOf w n) ≡ n
+heard-whole w {r} {n} hr hn = rw (add-zero, div-eq-of-lt hr, mod-eq-of-lt hn, mul-one, zero-add) at (shifted w 0 r n)
