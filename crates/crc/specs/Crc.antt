@@ -2,7 +2,7 @@
 -- from 0, sent inverted, low byte first" ("Memory commands"): one definition, over the width and the polynomial. Assumes nothing.
 use mathlib.Core.Bool.{Bool, xor}
 use mathlib.Core.List.{List, [], _∷_}
-use Prim.Native.Nat.{ℕ, zero, suc, _+_, _-_, _*_, _/_, _%_, _^_}
+use Prim.Native.Nat.{ℕ, zero, suc, _+_, _-_, _/_, _%_, _^_}
 use lib.Bits.{bitXor}
 use lib.Dec.{eqb}
 use Rattle.bits.specs.Choose.{if_then_else_}
@@ -21,19 +21,21 @@ taps w (e ∷ es) = 2 ^ (w - 1 - e) + taps w es
 unfoldable pub crcBit : ℕ → ℕ → Bool → ℕ
 crcBit mask r b = if xor (bitOf r 0) b then bitXor mask (r / 2) else r / 2
 
--- with all of these bits, with a byte's eight, low bit first, and with all of these bytes
+-- with all of these bits
 unfoldable pub crcBits : ℕ → ℕ → List Bool → ℕ
 crcBits mask r [] = r
 crcBits mask r (b ∷ bs) = crcBits mask (crcBit mask r b) bs
 
+-- with a byte, low bit first
 unfoldable pub crcByte : ℕ → ℕ → ℕ → ℕ
 crcByte mask r byte = crcBits mask r (bitsOf 8 byte)
 
+-- with all of these bytes
 unfoldable pub crcRun : ℕ → ℕ → List ℕ → ℕ
 crcRun mask r [] = r
 crcRun mask r (byte ∷ bytes) = crcRun mask (crcByte mask r byte) bytes
 
--- the n low bytes of a number, low byte first
+-- the k low bytes of a number, low byte first
 unfoldable pub bytesOf : ℕ → ℕ → List ℕ
 bytesOf zero n = []
 bytesOf (suc k) n = n % 256 ∷ bytesOf k (n / 256)

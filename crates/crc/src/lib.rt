@@ -4,9 +4,10 @@ ghost use mathlib.Core.Path.{_≡_};
 ghost use Rattle.bits.specs.Bits.{bitsOf};
 ghost use Rattle.crc.specs.Crc.{crcBit, crcBits, crc16Bit, crc16Byte, crc16Run, sentLow, sentHigh, crc8Of, goodCrc};
 
-// x^16+x^15+x^2+1 and x^8+x^5+x^4+1 without the highest term, the term 1 at the register's top bit.
+// x^16+x^15+x^2+1 as a register's bits: low bit first, so the term 1 is its top bit, and x^16 is left out.
 const CRC16: u16 = 0xA001;
 
+// x^8+x^5+x^4+1 likewise, in a register of 8 bits.
 const CRC8: u16 = 0x8C;
 
 // The CRC-16 register with one more bit.
@@ -16,14 +17,14 @@ pub fn crc16_bit(crc: u16, bit: bool) -> u16
     with_bit(CRC16, crc, bit)
 }
 
-// With one more byte, low bit first.
+// The CRC-16 register with one more byte, low bit first.
 pub fn crc16_byte(crc: u16, byte: u8) -> u16
     ensures { λ r. ⌜ r ≡ crc16Byte crc byte ⌝ }
 {
     with_bits(CRC16, crc, byte as u64, 8)
 }
 
-// With all of these bytes.
+// The CRC-16 register with all of these bytes, first to last.
 pub fn crc16_run(crc: u16, bytes: &[u8]) -> u16
     ensures { λ r. ⌜ r ≡ crc16Run crc (now (bytes .entry)) ⌝ }
 {
@@ -41,7 +42,7 @@ pub fn sent_low(crc: u16) -> u8
     255 - (crc % 256) as u8
 }
 
-// The second: the high one, inverted.
+// The second of the two bytes that are sent: the high one, inverted.
 pub fn sent_high(crc: u16) -> u8
     ensures { λ r. ⌜ r ≡ sentHigh crc ⌝ }
 {
