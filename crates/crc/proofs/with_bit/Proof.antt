@@ -1,7 +1,7 @@
 -- `crc::with_bit` meets its contract, by whether the two bits differ. Assumes nothing.
 use mathlib.Core.Bool.{xor}
 use Rattle.crc.specs.Crc.{crcBit}
-use Rattle.crc.specs.Crc.Laws.{bit-low}
+use Rattle.bits.specs.Bits.Laws.{bit-low}
 use Rattle.crc.proofs.with_bit.Statement.{statement}
 use Rattle.crc.proofs.with_bit.Tie as tie
 

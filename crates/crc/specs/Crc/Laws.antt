@@ -4,7 +4,7 @@ use mathlib.Core.Logic.{_↔_, _⊎_, inl, inr, ⊎-elim}
 use mathlib.Core.Bool.{Bool, true, false, xor}
 use mathlib.Core.List.{List, [], _∷_, _++_}
 use Prim.Native.Nat.{ℕ, zero, suc, _+_, _-_, _*_, _/_, _%_, _^_, _≤_, _<_}
-use native.Mathlib.Nat.{div-one, mod-one, mod-lt, div-eq-of-lt, div-div-eq-div-mul, pow-succ', lt-of-lt-of-le, zero-add, suc-add, zero-mul, not-suc-le-zero, le-of-suc-le-suc}
+use native.Mathlib.Nat.{mod-one, mod-lt, div-eq-of-lt, pow-succ', lt-of-lt-of-le, zero-mul, not-suc-le-zero, le-of-suc-le-suc}
 use native.Mathlib.Numerals.{add-one}
 use native.Mathlib.Omega.{arith}
 use borrow.Author.Tests.{eqb-true, eq-eqb}
@@ -12,33 +12,12 @@ use lib.Arith.{lt-one}
 use lib.Bits.{bitXor, xor-lt, xor-shr, xor-zero-r}
 use lib.Dec.{eqb}
 use lib.ListN.{length, getD, drop, drop-of-length-le}
-use lib.Pow.{pow-pos, pow-mono, split, field, mod-mod-pow, mod-pow-add}
+use lib.Pow.{pow-pos, pow-mono, split, mod-pow-add}
 use lib.Seq.{drop-cons}
 use Rattle.bits.specs.Choose.{if_then_else_}
 use Rattle.bits.specs.Bits.{digit, bitOf, bitsOf}
-use Rattle.bits.specs.Bits.Laws.{digit-bit}
+use Rattle.bits.specs.Bits.Laws.{digit-bit, bit-low, bits-add, bits-mod}
 use Rattle.crc.specs.Crc.{taps, crcBit, crcBits, crcByte, crcRun, bytesOf, mask16, crc16Byte, crc16Run, sentLow, sentHigh, mask8, crc8Of, goodCrc}
-
--- ---- the bits of a number
-
--- the lowest bit is 1 exactly if the number is odd
-pub bit-low : (n : ℕ) → bitOf n 0 ≡ eqb (n % 2) 1
-unfolding bitOf
-bit-low n = rw (div-one n)
-
--- a + b bits: a bits, and b bits of what is above them
-pub bits-add : (a b n : ℕ) → bitsOf (a + b) n ≡ bitsOf a n ++ bitsOf b (n / 2 ^ a)
-unfolding bitsOf
-bits-add zero b n = rw (zero-add, div-one)
-bits-add (suc a) b n = rw (suc-add, bits-add a b (n / 2), div-div-eq-div-mul, ← pow-succ')
-
--- a bits don't see what is above them
-pub bits-mod : (a n : ℕ) → bitsOf a (n % 2 ^ a) ≡ bitsOf a n
-unfolding bitsOf
-bits-mod zero n = refl
-bits-mod (suc a) n =
-    let low : bitOf (n % 2 ^ suc a) 0 ≡ bitOf n 0 = rw (bit-low (n % 2 ^ suc a), bit-low n, rw add-one at (mod-mod-pow n a 1)) in
-    rw (low, rw add-one at (field n a 1), bits-mod a (n / 2))
 
 -- ---- the register stays below 2 ^ width
 
