@@ -1,0 +1,20 @@
+-- `calendar::flip` meets its contract, by the two sides of 128. Assumes nothing.
+use borrow.Author.Needs.{needs}
+use borrow.Author.Tests.{lt-ltb, le-ltb}
+use Rattle.calendar.specs.Calendar.{flipped}
+use Rattle.calendar.proofs.flip.Statement.{statement}
+use Rattle.calendar.proofs.flip.Tie as tie
+
+add-result : tie.Need-add-result
+add-result c = search needs
+
+returns : tie.Need-returns
+unfolding flipped
+returns c = simp (lt-ltb _ _ (c .if1 .taken))
+
+returns-2 : tie.Need-returns-2
+unfolding flipped
+returns-2 c = simp (le-ltb _ _ (c .if1 .left))
+
+pub flip-spec : {M : Type 1} → statement M
+flip-spec = tie.close (tie.spec add-result returns returns-2)

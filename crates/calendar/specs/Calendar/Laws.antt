@@ -1,0 +1,118 @@
+-- What a field's step gives, for any lowest and last value, and n seconds on. Assumes nothing.
+use mathlib.Core.Path.{_≡_, refl, ap}
+use mathlib.Core.Bool.{Bool, true, false, not, _||_, and-eq-true-iff, or-true, true≢false}
+use mathlib.Core.Logic.{_⊎_, inl, inr, ⊎-elim}
+use Prim.Native.Nat.{ℕ, zero, suc, _+_, _/_, _%_, _≤_, _<_}
+use native.Mathlib.Nat.{suc-add, zero-add}
+use native.Mathlib.Omega.{arith}
+use borrow.Author.Tests.{le-leb, leb-true, eq-eqb, eqb-true, ne-eqb, eqb-false, not-false}
+use lib.Dec.{eqb}
+use Rattle.calendar.specs.declared.Clock.{Clock}
+use Rattle.calendar.specs.Calendar.{isValid, plusOne, stepField, nextSecond, clockAfter}
+
+-- ---- a valid field
+
+-- no digit above 9
+pub record Digits (byte : ℕ) : Type 0 where
+  pub tens : byte / 16 ≤ 9
+  pub ones : byte % 16 ≤ 9
+
+-- no digit above 9, and not outside lowest .. last
+pub record Between (lowest last byte : ℕ) : Type 0 where
+  pub digits : Digits byte
+  pub above : lowest ≤ byte
+  pub below : byte ≤ last
+
+pub valid-between : {lowest last byte : ℕ} → isValid lowest last byte ≡ true → Between lowest last byte
+unfolding isValid
+valid-between {lowest} {last} {byte} e =
+    let three = and-eq-true-iff _ _ .0 e in
+    let two = and-eq-true-iff _ _ .0 (three .0) in
+    let one = and-eq-true-iff _ _ .0 (two .0) in
+    record {
+      digits = record { tens = leb-true (byte / 16) 9 (one .0); ones = leb-true (byte % 16) 9 (one .1) };
+      above = leb-true lowest byte (two .1);
+      below = leb-true byte last (three .1);
+    }
+
+pub between-valid : {lowest last byte : ℕ} → Between lowest last byte → isValid lowest last byte ≡ true
+unfolding isValid
+between-valid b = simp (le-leb _ _ (b .digits .tens), le-leb _ _ (b .digits .ones), le-leb _ _ (b .above), le-leb _ _ (b .below))
+
+-- ---- one field's step
+
+or-left : (a b : Bool) → (a || b) ≡ false → a ≡ false
+or-left true b e = e
+or-left false b e = refl
+
+or-right : (a b : Bool) → (a || b) ≡ false → b ≡ false
+or-right true b e = absurd (true≢false e)
+or-right false b e = e
+
+-- a field that does not return to its lowest is valid
+pub goes-on-between : (lowest last byte : ℕ) → (eqb byte last || not (isValid lowest last byte)) ≡ false → Between lowest last byte
+goes-on-between lowest last byte e = valid-between (not-false _ (or-right (eqb byte last) _ e))
+
+pub step-last : (lowest last : ℕ) → stepField lowest last last ≡ record { byte = lowest; carry = true }
+unfolding stepField
+step-last lowest last = simp (eq-eqb last last refl)
+
+pub step-invalid : (lowest last byte : ℕ) → isValid lowest last byte ≡ false → stepField lowest last byte ≡ record { byte = lowest; carry = true }
+unfolding stepField
+step-invalid lowest last byte e = rw (e, or-true (eqb byte last))
+
+pub step-on : {lowest last byte : ℕ} → Between lowest last byte → byte < last → stepField lowest last byte ≡ record { byte = plusOne byte; carry = false }
+unfolding stepField
+step-on {lowest} {last} {byte} b h =
+    let other : byte ≡ last → ⊥ = λ e. omega arith in
+    simp (ne-eqb byte last other, between-valid b)
+
+-- past a 9 the byte goes on by seven, else by one
+pub plus-one : (byte : ℕ) → (byte % 16 ≡ 9 × plusOne byte ≡ byte + 7) ⊎ (¬ (byte % 16 ≡ 9) × plusOne byte ≡ byte + 1)
+unfolding plusOne
+plus-one byte = go (eqb (byte % 16) 9) refl
+  where
+    go : (t : Bool) → eqb (byte % 16) 9 ≡ t → (byte % 16 ≡ 9 × plusOne byte ≡ byte + 7) ⊎ (¬ (byte % 16 ≡ 9) × plusOne byte ≡ byte + 1)
+    go true e = inl (eqb-true (byte % 16) 9 e, rw e)
+    go false e = inr (eqb-false (byte % 16) 9 e, rw e)
+
+-- a field returns to its lowest, or it is valid, not yet at its last, and goes on
+pub step-cases : (lowest last byte : ℕ) →
+    (stepField lowest last byte ≡ record { byte = lowest; carry = true })
+    ⊎ (Between lowest last byte × byte < last × stepField lowest last byte ≡ record { byte = plusOne byte; carry = false })
+unfolding stepField
+step-cases lowest last byte = go (eqb byte last || not (isValid lowest last byte)) refl
+  where
+    go : (t : Bool) → (eqb byte last || not (isValid lowest last byte)) ≡ t →
+        (stepField lowest last byte ≡ record { byte = lowest; carry = true })
+        ⊎ (Between lowest last byte × byte < last × stepField lowest last byte ≡ record { byte = plusOne byte; carry = false })
+    go true e = inl (rw e)
+    go false e =
+        let b = goes-on-between lowest last byte e in
+        inr (b, omega (arith, b, eqb-false byte last (or-left _ _ e)), rw e)
+
+-- a field is never past its last value after a step
+pub step-le : {lowest last : ℕ} (byte : ℕ) → last % 16 ≤ 9 → lowest ≤ last → stepField lowest last byte .byte ≤ last
+step-le {lowest} {last} byte d h =
+    ⊎-elim (λ e. rw e h) (λ g. rw (g .2) (⊎-elim (λ n. omega arith) (λ n. omega arith) (plus-one byte))) (step-cases lowest last byte)
+
+-- ---- n seconds on
+
+pub after-zero : (c : Clock) → clockAfter 0 c ≡ c
+unfolding clockAfter
+after-zero c = refl
+
+pub after-suc : (n : ℕ) (c : Clock) → clockAfter (suc n) c ≡ nextSecond (clockAfter n c)
+unfolding clockAfter
+after-suc n c = refl
+
+pub after-add : (m n : ℕ) (c : Clock) → clockAfter (m + n) c ≡ clockAfter m (clockAfter n c)
+unfolding clockAfter
+after-add zero n c = rw (zero-add n)
+after-add (suc m) n c = rw (suc-add m n) (ap nextSecond (after-add m n c))
+
+-- the second that comes first may as well be taken first
+pub after-next : (n : ℕ) (c : Clock) → clockAfter n (nextSecond c) ≡ clockAfter (suc n) c
+unfolding clockAfter
+after-next zero c = refl
+after-next (suc n) c = ap nextSecond (after-next n c)

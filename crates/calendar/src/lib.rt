@@ -1,0 +1,143 @@
+// The clock's six BCD fields, one second on. A field at its last value, or not valid, returns to its lowest and carries to
+// the next; a field is looked at only when it steps. Every function answers any six bytes.
+ghost use mathlib.Core.Path.{_≡_};
+ghost use Prim.Native.Nat.{_%_};
+ghost use Rattle.calendar.specs.Calendar.{isValid, stepField, stepHours, stepMonth, isLeap, daysIn, flipped, nextDay, nextSecond};
+
+// The registers 0200h-0205h. `month` holds CENT in bit 7 and the month in bits 4-0.
+pub struct Clock {
+    pub seconds: u8,
+    pub minutes: u8,
+    pub hours: u8,
+    pub date: u8,
+    pub month: u8,
+    pub year: u8,
+}
+
+// What a field becomes as it steps, and whether it carries to the next.
+pub struct Stepped {
+    pub byte: u8,
+    pub carry: bool,
+}
+
+// One second on. Most seconds step one field alone, so each field's carry is tested before the next is looked at.
+pub fn next(clock: Clock) -> Clock
+    ensures { λ r. ⌜ r ≡ nextSecond clock ⌝ }
+{
+    let mut c = clock;
+    let seconds = step(0x00, 0x59, c.seconds);
+    c.seconds = seconds.byte;
+    if !seconds.carry {
+        return c;
+    }
+    let minutes = step(0x00, 0x59, c.minutes);
+    c.minutes = minutes.byte;
+    if !minutes.carry {
+        return c;
+    }
+    let hours = step_hours(c.hours);
+    c.hours = hours.byte;
+    if !hours.carry {
+        return c;
+    }
+    next_day(c)
+}
+
+// One day on, by the month and the year that it ends in.
+fn next_day(clock: Clock) -> Clock
+    ensures { λ r. ⌜ r ≡ nextDay clock ⌝ }
+{
+    let mut c = clock;
+    let date = step(0x01, days_in(c.month % 32, c.year), c.date);
+    c.date = date.byte;
+    if !date.carry {
+        return c;
+    }
+    let month = step_month(c.month);
+    c.month = month.byte;
+    if !month.carry {
+        return c;
+    }
+    let year = step(0x00, 0x99, c.year);
+    c.year = year.byte;
+    if year.carry {
+        c.month = flip(c.month);
+    }
+    c
+}
+
+// The hours, 24 a day.
+fn step_hours(byte: u8) -> Stepped
+    ensures { λ r. ⌜ r ≡ stepHours byte ⌝ }
+{
+    step(0x00, 0x23, byte)
+}
+
+// The month's byte: CENT is kept as the month steps.
+fn step_month(byte: u8) -> Stepped
+    ensures { λ r. ⌜ r ≡ stepMonth byte ⌝ }
+{
+    let month = step(0x01, 0x12, byte % 32);
+    if byte < 128 {
+        month
+    } else {
+        Stepped {
+            byte: month.byte + 128,
+            carry: month.carry,
+        }
+    }
+}
+
+// The month's byte with CENT, its bit 7, flipped.
+fn flip(byte: u8) -> u8
+    ensures { λ r. ⌜ r ≡ flipped byte ⌝ }
+{
+    if byte < 128 { byte + 128 } else { byte - 128 }
+}
+
+// The month's last date, in BCD: 31 of an invalid month.
+fn days_in(month: u8, year: u8) -> u8
+    ensures { λ r. ⌜ r ≡ daysIn month year ⌝ }
+{
+    match month {
+        0x02 => { if is_leap(year) { 0x29 } else { 0x28 } }
+        0x04 | 0x06 | 0x09 | 0x11 => 0x30,
+        _ => 0x31,
+    }
+}
+
+// Whether February has 29 days; an invalid year has no leap day.
+fn is_leap(year: u8) -> bool
+    ensures { λ r. ⌜ r ≡ isLeap year ⌝ }
+{
+    valid(0x00, 0x99, year) && (10 * (year / 16) + year % 16) % 4 == 0
+}
+
+// One field's step, between its lowest and its last value.
+fn step(lowest: u8, last: u8, byte: u8) -> Stepped
+    ensures { λ r. ⌜ r ≡ stepField lowest last byte ⌝ }
+{
+    if byte == last || !valid(lowest, last, byte) {
+        Stepped {
+            byte: lowest,
+            carry: true,
+        }
+    } else if byte % 16 == 9 {
+        Stepped {
+            byte: byte + 7,
+            carry: false,
+        }
+    } else {
+        Stepped {
+            byte: byte + 1,
+            carry: false,
+        }
+    }
+}
+
+// Two digits up to 9, and neither below the lowest nor past the last.
+fn valid(lowest: u8, last: u8, byte: u8) -> bool
+    ensures { λ r. ⌜ r ≡ isValid lowest last byte ⌝ }
+{
+    byte / 16 <= 9 && byte % 16 <= 9 && lowest <= byte && byte <= last
+}
