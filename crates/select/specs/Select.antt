@@ -29,13 +29,13 @@ resetSelect select = keeps (select .mark) (Command 0 0)
 -- Resume needs it". `alarm` is whether BOR, THF or TLF is 1 as the byte ends.
 unfoldable pub romCommand : ℕ → Bool → Bool → Select
 romCommand byte mark alarm =
-    if eqb byte 0x33 then clears (Reading 0)                                        -- Read
-    else if eqb byte 0x55 then clears (Matching 0)                                  -- Match
-    else if eqb byte 0xF0 then clears (Giving 0)                                    -- Search
-    else if eqb byte 0xEC then clears (if alarm then Giving 0 else Silent)          -- Conditional Search
-    else if eqb byte 0xCC then clears Selected                                      -- Skip
-    else if eqb byte 0xA5 then keeps mark (if mark then Selected else Silent)       -- Resume
-    else keeps mark Silent                                                          -- "Any other byte: silent until reset"
+    if eqb byte 0x33 then clears (Reading 0)  -- Read
+    else if eqb byte 0x55 then clears (Matching 0)  -- Match
+    else if eqb byte 0xF0 then clears (Giving 0)  -- Search
+    else if eqb byte 0xEC then clears (if alarm then Giving 0 else Silent)  -- Conditional Search
+    else if eqb byte 0xCC then clears Selected  -- Skip
+    else if eqb byte 0xA5 then keeps mark (if mark then Selected else Silent)  -- Resume
+    else keeps mark Silent  -- "Any other byte: silent until reset"
 
 -- One more bit of the command byte, "low bit first"; the eighth makes it whole.
 unfoldable pub commandBit : ℕ → ℕ → Bool → Bool → Bool → Select

@@ -76,21 +76,13 @@ pub fn asks_alarm(select: Select, bit: bool) -> bool
     ensures { λ r. ⌜ r ≡ asksAlarm select bit ⌝ }
 {
     let choosing = select.choosing;
-    match choosing {
-        Choosing::Command(heard, count) => {
-            if count < 7 {
-                false
-            } else {
-                bits::shift_in8(heard, bit) == 0xEC
-            }
-        }
-        Choosing::Silent => false,
-        Choosing::Reading(_) => false,
-        Choosing::Matching(_) => false,
-        Choosing::Giving(_) => false,
-        Choosing::Complementing(_) => false,
-        Choosing::Awaiting(_) => false,
-        Choosing::Selected => false,
+    let Choosing::Command(heard, count) = choosing else {
+        return false;
+    };
+    if count < 7 {
+        false
+    } else {
+        bits::shift_in8(heard, bit) == 0xEC
     }
 }
 
@@ -103,17 +95,37 @@ pub fn slot(select: Select, number: u64, bit: bool, alarm: bool) -> Chosen
     let choosing = select.choosing;
     match choosing {
         Choosing::Silent => send(true, bit, keep(mark, Choosing::Silent)),
-        Choosing::Command(heard, count) => send(true, bit, command_bit(heard, count, mark, bit, alarm)),
+        Choosing::Command(heard, count) => send(
+            true,
+            bit,
+            command_bit(heard, count, mark, bit, alarm),
+        ),
         Choosing::Reading(at) => send(bits::bit(number, at), bit, read_bit(at, mark)),
         Choosing::Matching(at) => {
             let next = Choosing::Matching(following(at));
-            send(true, bit, hear_bit(bits::bit(number, at), bit, at, next, mark))
+            send(
+                true,
+                bit,
+                hear_bit(bits::bit(number, at), bit, at, next, mark),
+            )
         }
-        Choosing::Giving(at) => send(bits::bit(number, at), bit, keep(mark, Choosing::Complementing(at))),
-        Choosing::Complementing(at) => send(!bits::bit(number, at), bit, keep(mark, Choosing::Awaiting(at))),
+        Choosing::Giving(at) => send(
+            bits::bit(number, at),
+            bit,
+            keep(mark, Choosing::Complementing(at)),
+        ),
+        Choosing::Complementing(at) => send(
+            !bits::bit(number, at),
+            bit,
+            keep(mark, Choosing::Awaiting(at)),
+        ),
         Choosing::Awaiting(at) => {
             let next = Choosing::Giving(following(at));
-            send(true, bit, hear_bit(bits::bit(number, at), bit, at, next, mark))
+            send(
+                true,
+                bit,
+                hear_bit(bits::bit(number, at), bit, at, next, mark),
+            )
         }
         Choosing::Selected => send(true, bit, keep(mark, Choosing::Selected)),
     }
