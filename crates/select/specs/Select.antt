@@ -51,11 +51,11 @@ following at = if ltb at 63 then at + 1 else at
 unfoldable pub readBit : ℕ → Bool → Select
 readBit at mark = keeps mark (if ltb at 63 then Reading (following at) else Selected)
 
--- Bit `at` of Match or Search is heard, where the tag's own is `own`: it "drops out if it differs"; `next` follows while
+-- Bit `at` of Match or Search is heard: the tag "drops out if it differs"; `next` follows while
 -- bits are left; "a whole Match or either whole Search sets" the mark, and goes on to memory commands.
-unfoldable pub heardBit : Bool → Bool → ℕ → Choosing → Bool → Select
-heardBit own bit at next mark =
-    if Bool·beq own bit then (if ltb at 63 then keeps mark next else keeps true Selected)
+unfoldable pub heardBit : ℕ → ℕ → Bool → Choosing → Bool → Select
+heardBit number at bit next mark =
+    if Bool·beq (bitOf number at) bit then (if ltb at 63 then keeps mark next else keeps true Selected)
     else keeps mark Silent
 
 -- "A slot's bit is the master's bit and the tag's bit combined by AND; a silent or listening tag gives 1"
@@ -72,11 +72,11 @@ slotAt Silent mark number bit alarm = listens bit (keeps mark Silent)
 slotAt (Command heard count) mark number bit alarm = listens bit (commandBit heard count mark bit alarm)
 slotAt (Reading at) mark number bit alarm = sends (bitOf number at) bit (readBit at mark)
 slotAt (Matching at) mark number bit alarm =
-    listens bit (heardBit (bitOf number at) bit at (Matching (following at)) mark)
+    listens bit (heardBit number at bit (Matching (following at)) mark)
 slotAt (Giving at) mark number bit alarm = sends (bitOf number at) bit (keeps mark (Complementing at))
 slotAt (Complementing at) mark number bit alarm = sends (not (bitOf number at)) bit (keeps mark (Awaiting at))
 slotAt (Awaiting at) mark number bit alarm =
-    listens bit (heardBit (bitOf number at) bit at (Giving (following at)) mark)
+    listens bit (heardBit number at bit (Giving (following at)) mark)
 slotAt Selected mark number bit alarm = listens bit (keeps mark Selected)
 
 -- One slot of a tag with this number; the master's bit is true with the line released.

@@ -95,37 +95,26 @@ pub fn slot(select: Select, number: u64, bit: bool, alarm: bool) -> Chosen
     let choosing = select.choosing;
     match choosing {
         Choosing::Silent => send(true, bit, keep(mark, Choosing::Silent)),
-        Choosing::Command(heard, count) => send(
-            true,
-            bit,
-            command_bit(heard, count, mark, bit, alarm),
-        ),
+        Choosing::Command(heard, count) => {
+            let next = command_bit(heard, count, mark, bit, alarm);
+            send(true, bit, next)
+        }
         Choosing::Reading(at) => send(bits::bit(number, at), bit, read_bit(at, mark)),
         Choosing::Matching(at) => {
             let next = Choosing::Matching(following(at));
-            send(
-                true,
-                bit,
-                hear_bit(bits::bit(number, at), bit, at, next, mark),
-            )
+            send(true, bit, hear_bit(number, at, bit, next, mark))
         }
-        Choosing::Giving(at) => send(
-            bits::bit(number, at),
-            bit,
-            keep(mark, Choosing::Complementing(at)),
-        ),
-        Choosing::Complementing(at) => send(
-            !bits::bit(number, at),
-            bit,
-            keep(mark, Choosing::Awaiting(at)),
-        ),
+        Choosing::Giving(at) => {
+            let next = keep(mark, Choosing::Complementing(at));
+            send(bits::bit(number, at), bit, next)
+        }
+        Choosing::Complementing(at) => {
+            let next = keep(mark, Choosing::Awaiting(at));
+            send(!bits::bit(number, at), bit, next)
+        }
         Choosing::Awaiting(at) => {
             let next = Choosing::Giving(following(at));
-            send(
-                true,
-                bit,
-                hear_bit(bits::bit(number, at), bit, at, next, mark),
-            )
+            send(true, bit, hear_bit(number, at, bit, next, mark))
         }
         Choosing::Selected => send(true, bit, keep(mark, Choosing::Selected)),
     }
@@ -211,9 +200,10 @@ fn read_bit(at: u8, mark: bool) -> Select
 }
 
 // Match or Search, once bit `at` is heard: `next` while bits are left.
-fn hear_bit(own: bool, bit: bool, at: u8, next: Choosing, mark: bool) -> Select
-    ensures { λ r. ⌜ r ≡ heardBit own bit at next mark ⌝ }
+fn hear_bit(number: u64, at: u8, bit: bool, next: Choosing, mark: bool) -> Select
+    ensures { λ r. ⌜ r ≡ heardBit number at bit next mark ⌝ }
 {
+    let own = bits::bit(number, at);
     if own == bit {
         if at < 63 {
             keep(mark, next)

@@ -40,9 +40,6 @@ enum-known-choosing-3 c = search needs
 following-requires : tie.Need-following-requires
 following-requires c κs = search needs
 
-bit-requires-2 : tie.Need-bit-requires-2
-bit-requires-2 c κs = search needs
-
 hear-bit-requires : tie.Need-hear-bit-requires
 hear-bit-requires c κs = search needs
 
@@ -52,11 +49,11 @@ send-requires-4 c κs = search needs
 enum-known-choosing-4 : tie.Need-enum-known-choosing-4
 enum-known-choosing-4 c = search needs
 
-bit-requires-3 : tie.Need-bit-requires-3
-bit-requires-3 c κs = search needs
-
 keep-requires-2 : tie.Need-keep-requires-2
 keep-requires-2 c κs = search needs
+
+bit-requires-2 : tie.Need-bit-requires-2
+bit-requires-2 c κs = search needs
 
 send-requires-5 : tie.Need-send-requires-5
 send-requires-5 c κs = search needs
@@ -64,11 +61,11 @@ send-requires-5 c κs = search needs
 enum-known-choosing-5 : tie.Need-enum-known-choosing-5
 enum-known-choosing-5 c = search needs
 
-bit-requires-4 : tie.Need-bit-requires-4
-bit-requires-4 c κs = search needs
-
 keep-requires-3 : tie.Need-keep-requires-3
 keep-requires-3 c κs = search needs
+
+bit-requires-3 : tie.Need-bit-requires-3
+bit-requires-3 c κs = search needs
 
 send-requires-6 : tie.Need-send-requires-6
 send-requires-6 c κs = search needs
@@ -78,9 +75,6 @@ enum-known-choosing-6 c = search needs
 
 following-requires-2 : tie.Need-following-requires-2
 following-requires-2 c κs = search needs
-
-bit-requires-5 : tie.Need-bit-requires-5
-bit-requires-5 c κs = search needs
 
 hear-bit-requires-2 : tie.Need-hear-bit-requires-2
 hear-bit-requires-2 c κs = search needs
@@ -111,19 +105,19 @@ returns-3 c = simp (c .send3 .ensures, c .before .read-bit .ensures, c .before .
 
 returns-4 : tie.Need-returns-4
 unfolding slotAt
-returns-4 c = simp (c .send4 .ensures, c .before .hear-bit .ensures, c .before .before .bit2 .ensures, c .before .before .before .following .ensures, c .before .before .before .before .before .choosing3 .given .1)
+returns-4 c = simp (c .send4 .ensures, c .before .hear-bit .ensures, c .before .before .following .ensures, c .before .before .before .before .choosing3 .given .1)
 
 returns-5 : tie.Need-returns-5
 unfolding slotAt
-returns-5 c = simp (c .send5 .ensures, c .before .keep2 .ensures, c .before .before .bit3 .ensures, c .before .before .before .before .choosing4 .given .1)
+returns-5 c = simp (c .send5 .ensures, c .before .before .keep2 .ensures, c .before .bit2 .ensures, c .before .before .before .before .choosing4 .given .1)
 
 returns-6 : tie.Need-returns-6
 unfolding slotAt
-returns-6 c = simp (c .send6 .ensures, c .before .keep3 .ensures, c .before .before .bit4 .ensures, c .before .before .before .before .choosing5 .given .1)
+returns-6 c = simp (c .send6 .ensures, c .before .before .keep3 .ensures, c .before .bit3 .ensures, c .before .before .before .before .choosing5 .given .1)
 
 returns-7 : tie.Need-returns-7
 unfolding slotAt
-returns-7 c = simp (c .send7 .ensures, c .before .hear-bit2 .ensures, c .before .before .bit5 .ensures, c .before .before .before .following2 .ensures, c .before .before .before .before .before .choosing6 .given .1)
+returns-7 c = simp (c .send7 .ensures, c .before .hear-bit2 .ensures, c .before .before .following2 .ensures, c .before .before .before .before .choosing6 .given .1)
 
 returns-8 : tie.Need-returns-8
 unfolding slotAt
@@ -145,20 +139,18 @@ slot-spec =
     send-requires-3
     enum-known-choosing-3
     following-requires
-    bit-requires-2
     hear-bit-requires
     send-requires-4
     enum-known-choosing-4
-    bit-requires-3
     keep-requires-2
+    bit-requires-2
     send-requires-5
     enum-known-choosing-5
-    bit-requires-4
     keep-requires-3
+    bit-requires-3
     send-requires-6
     enum-known-choosing-6
     following-requires-2
-    bit-requires-5
     hear-bit-requires-2
     send-requires-7
     enum-told-2
