@@ -9,6 +9,7 @@ use Rattle.select.specs.declared.Choosing.{Choosing}
 use Rattle.select.specs.declared.Choosing.the-variants.{Silent, Command, Reading, Matching, Giving, Complementing, Awaiting, Selected}
 use Rattle.select.specs.declared.Select.{Select}
 use Rattle.select.specs.declared.Chosen.{Chosen}
+pub mod Laws
 
 -- choosing goes on with the Resume mark left as it is, and with the mark cleared
 abbrev pub keeps : Bool → Choosing → Select
@@ -80,7 +81,7 @@ slotAt (Awaiting at) mark number bit alarm =
 slotAt Selected mark number bit alarm = listens bit (keeps mark Selected)
 
 -- One slot of a tag with this number; the master's bit is true with the line released.
-abbrev pub slotOf : Select → ℕ → Bool → Bool → Chosen
+unfoldable pub slotOf : Select → ℕ → Bool → Bool → Chosen
 slotOf select number bit alarm = slotAt (select .choosing) (select .mark) number bit alarm
 
 -- "when the command byte ends": this slot is the last bit of a Conditional Search command
