@@ -1,6 +1,6 @@
 -- What whole ROM commands come to, by induction on the bits that are left. Assumes nothing.
 use mathlib.Core.Path.{_≡_, refl, sym, ap, _∙_}
-use mathlib.Core.Bool.{Bool, true, false, not, Bool·beq}
+use mathlib.Core.Bool.{Bool, true, false, not, Bool·beq, and-true}
 use mathlib.Core.List.{List, [], _∷_, _++_, flatMap}
 use Prim.Native.Nat.{ℕ, zero, suc, _+_, _*_, _/_, _^_, _<_, _≤_}
 use native.Mathlib.Nat.{div-one, div-div-eq-div-mul, pow-succ', mul-comm}
@@ -44,6 +44,10 @@ bits-from : (k number at : ℕ) → bitsOf (suc k) (number / 2 ^ at) ≡ bitOf n
 unfolding bitsOf bitOf
 bits-from k number at = simp (div-one, div-div-eq-div-mul, add-one, pow-succ', mul-comm)
 
+last-bit : (number at : ℕ) → bitsOf 1 (number / 2 ^ at) ≡ bitOf number at ∷ []
+unfolding bitsOf
+last-bit number at = bits-from 0 number at
+
 -- ---- a command byte
 
 command-run : (number : ℕ) (alarm mark bit : Bool) (bits : List Bool) (heard count : ℕ) → count + length bits ≡ 7 →
@@ -54,3 +58,137 @@ command-run number alarm mark bit [] heard count h = rw (command-last heard coun
 command-run number alarm mark bit (b ∷ bs) heard count h =
     rw (command-more heard count mark bit alarm (omega arith))
     (ap (follows (bit ∷ [])) (command-run number alarm mark b bs (shiftIn 8 heard bit) (count + 1) (omega arith)))
+
+-- eight slots after a reset: what `romCommand` says of the byte they carry
+pub run-command : (select : Select) (number byte : ℕ) (alarm : Bool) → byte < 256 →
+    run (resetSelect select) number alarm (bitsOf 8 byte) ≡
+    record { select = romCommand byte (select .mark) alarm; line = bitsOf 8 byte }
+unfolding bitsOf
+run-command select number byte alarm h =
+    command-run number alarm (select .mark) (bitOf byte 0) (bitsOf 7 (byte / 2)) 0 0 (omega (arith, length-bits 7 (byte / 2))) ∙
+    ap (λ (heard : ℕ). record { select = romCommand heard (select .mark) alarm; line = bitsOf 8 byte }) (heard-whole 8 (omega arith) h)
+
+-- and what comes after them
+pub after-command : (select : Select) (number byte : ℕ) (alarm : Bool) (bits : List Bool) → byte < 256 →
+    run (resetSelect select) number alarm (bitsOf 8 byte ++ bits) ≡
+    follows (bitsOf 8 byte) (run (romCommand byte (select .mark) alarm) number alarm bits)
+after-command select number byte alarm bits h =
+    run-append (resetSelect select) number alarm (bitsOf 8 byte) bits ∙
+    ap (λ (r : Ran). follows (r .line) (run (r .select) number alarm bits)) (run-command select number byte alarm h)
+
+-- ---- Read ROM
+
+read-run : (number : ℕ) (alarm mark : Bool) (left at : ℕ) → at + left ≡ 63 →
+    run (keeps mark (Reading at)) number alarm (released (suc left)) ≡
+    record { select = keeps mark Selected; line = bitsOf (suc left) (number / 2 ^ at) }
+unfolding run slotOf slotAt
+read-run number alarm mark zero at h =
+    rw (read-last at mark (omega arith), last-bit number at, and-true (bitOf number at))
+read-run number alarm mark (suc left) at h =
+    rw (read-more at mark (omega arith), bits-from (suc left) number at, and-true (bitOf number at))
+    (ap (follows (bitOf number at ∷ [])) (read-run number alarm mark left (at + 1) (omega arith)))
+
+-- "Read 33h": the line carries the number, and the tag goes on to memory commands
+pub run-read : (select : Select) (number : ℕ) (alarm : Bool) →
+    run (resetSelect select) number alarm (bitsOf 8 0x33 ++ released 64) ≡
+    record { select = clears Selected; line = bitsOf 8 0x33 ++ bitsOf 64 number }
+unfolding romCommand
+run-read select number alarm =
+    after-command select number 0x33 alarm (released 64) (omega arith) ∙
+    ap (follows (bitsOf 8 0x33)) (rw div-one at (read-run number alarm false 63 0 refl))
+
+-- ---- Match and Search: the tag is told a number bit by bit
+
+-- Where a telling stands at bit `at`, the slots that tell it one bit, and what the line carries in them, by the tag's own bit
+-- and the one that is told. A telling's slots come to what `heardBit` says.
+pub record Telling : Type 0 where
+  pub stage : ℕ → Choosing
+  pub slots : Bool → List Bool
+  pub line : Bool → Bool → List Bool
+  pub tells : (number : ℕ) (alarm mark bit : Bool) (at : ℕ) (rest : List Bool) →
+    run (keeps mark (stage at)) number alarm (slots bit ++ rest) ≡
+    follows (line (bitOf number at) bit) (run (heardBit number at bit (stage (following at)) mark) number alarm rest)
+
+pub matching : Telling
+unfolding run slotOf slotAt
+matching =
+    record {
+      stage = Matching;
+      slots = λ bit. bit ∷ [];
+      line = λ own bit. bit ∷ [];
+      tells = λ number alarm mark bit at rest. refl
+    }
+
+pub searching : Telling
+unfolding run slotOf slotAt
+searching =
+    record {
+      stage = Giving;
+      slots = λ choice. true ∷ true ∷ choice ∷ [];
+      line = λ own choice. own ∷ not own ∷ choice ∷ [];
+      tells = λ number alarm mark bit at rest. simp (and-true (bitOf number at), and-true (not (bitOf number at)))
+    }
+
+-- one bit that is right, with more to come
+told-right : (way : Telling) (number : ℕ) (alarm mark : Bool) (at : ℕ) (rest : List Bool) → at < 63 →
+    run (keeps mark (way .stage at)) number alarm (way .slots (bitOf number at) ++ rest) ≡
+    follows (way .line (bitOf number at) (bitOf number at)) (run (keeps mark (way .stage (at + 1))) number alarm rest)
+told-right way number alarm mark at rest h =
+    rw (way .tells number alarm mark (bitOf number at) at rest, heard-right-more number at (way .stage (following at)) mark h, following-more at h)
+
+-- one bit that is wrong: silent from then on
+pub told-wrong : (way : Telling) (number : ℕ) (alarm mark bit : Bool) (at : ℕ) (rest : List Bool) → Bool·beq (bitOf number at) bit ≡ false →
+    run (keeps mark (way .stage at)) number alarm (way .slots bit ++ rest) ≡
+    record { select = keeps mark Silent; line = way .line (bitOf number at) bit ++ rest }
+told-wrong way number alarm mark bit at rest h =
+    rw (way .tells number alarm mark bit at rest, heard-wrong number at bit (way .stage (following at)) mark h, run-silent mark number alarm rest)
+
+-- the number's own bits, from bit `at` to the last: the tag is selected and marked
+told-whole : (way : Telling) (number : ℕ) (alarm mark : Bool) (left at : ℕ) → at + left ≡ 63 →
+    run (keeps mark (way .stage at)) number alarm (flatMap (way .slots) (bitsOf (suc left) (number / 2 ^ at))) ≡
+    record { select = keeps true Selected; line = flatMap (λ bit. way .line bit bit) (bitsOf (suc left) (number / 2 ^ at)) }
+unfolding run flatMap
+told-whole way number alarm mark zero at h =
+    rw (last-bit number at, way .tells number alarm mark (bitOf number at) at [], heard-right-last number at (way .stage (following at)) mark (omega arith))
+told-whole way number alarm mark (suc left) at h =
+    rw (bits-from (suc left) number at, told-right way number alarm mark at (flatMap (way .slots) (bitsOf (suc left) (number / 2 ^ (at + 1)))) (omega arith))
+    (ap (follows (way .line (bitOf number at) (bitOf number at))) (told-whole way number alarm mark left (at + 1) (omega arith)))
+
+same-of-beq : (a b : Bool) → Bool·beq a b ≡ true → a ≡ b
+same-of-beq true true e = refl
+same-of-beq true false e = sym e
+same-of-beq false true e = e
+same-of-beq false false e = refl
+
+some-left : (bits : List Bool) (n : ℕ) → (bits ≡ bitsOf (length bits) n → ⊥) → 0 < length bits
+unfolding bitsOf
+some-left [] n other = absurd (other refl)
+some-left (bit ∷ bits) n other = omega arith
+
+-- any other bits: the tag is silent at the end, and the mark is as it was
+told-other : (way : Telling) (number : ℕ) (alarm mark : Bool) (bits : List Bool) (at : ℕ) → at + length bits ≤ 64 →
+    (bits ≡ bitsOf (length bits) (number / 2 ^ at) → ⊥) →
+    run (keeps mark (way .stage at)) number alarm (flatMap (way .slots) bits) .select ≡ keeps mark Silent
+unfolding flatMap bitsOf
+told-other way number alarm mark [] at h other = absurd (other refl)
+told-other way number alarm mark (bit ∷ bits) at h other = by (Bool·beq (bitOf number at) bit) refl (told-other way number alarm mark bits (at + 1))
+  where
+    rest : List Bool
+    rest = flatMap (way .slots) bits
+
+    -- where this bit is right, the bits after it are others
+    left-other : bitOf number at ≡ bit → bits ≡ bitsOf (length bits) (number / 2 ^ (at + 1)) → ⊥
+    left-other same e = other (rw (bits-from (length bits) number at, same, ← e))
+
+    by :
+        (right : Bool) →
+        Bool·beq (bitOf number at) bit ≡ right →
+        (at + 1 + length bits ≤ 64 → (bits ≡ bitsOf (length bits) (number / 2 ^ (at + 1)) → ⊥) → run (keeps mark (way .stage (at + 1))) number alarm rest .select ≡ keeps mark Silent) →
+        run (keeps mark (way .stage at)) number alarm (way .slots bit ++ rest) .select ≡ keeps mark Silent
+    by true e onward =
+        let same = same-of-beq (bitOf number at) bit e in
+        let some : 0 < length bits = some-left bits (number / 2 ^ (at + 1)) (left-other same) in
+        rw (← same)
+        (ap (λ (r : Ran). r .select) (told-right way number alarm mark at rest (omega arith)) ∙
+        onward (omega arith) (left-other same))
+    by false e onward = ap (λ (r : Ran). r .select) (told-wrong way number alarm mark bit at rest e)
