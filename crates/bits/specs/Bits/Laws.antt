@@ -1,13 +1,14 @@
 -- What bits taken low first add up to, once for every width. Assumes nothing.
 use mathlib.Core.Path.{_≡_, refl, sym, ap, _∙_}
 use mathlib.Core.Bool.{false}
+use mathlib.Core.List.{_++_}
 use Prim.Native.Nat.{ℕ, zero, suc, _+_, _-_, _*_, _/_, _%_, _^_, _≤_, _<_}
 use native.Mathlib.Nat.{pow-succ', div-one, div-div-eq-div-mul, mod-one, mod-eq-of-lt, div-eq-of-lt, add-mul-div-right, mul-assoc, add-suc, suc-add, add-zero, zero-add, le-of-suc-le-suc, not-suc-le-zero, lt-of-lt-of-le, zero-mul, mul-one, add-mul, mul-left-comm, add-assoc}
 use native.Mathlib.Omega.{arith}
 use native.Mathlib.Numerals.{add-one}
 use lib.Dec.{eqb}
 use lib.ListN.{length, getD}
-use lib.Pow.{pow-pos, pow-mono, pow-add, mod-pow-add}
+use lib.Pow.{pow-pos, pow-mono, pow-add, mod-pow-add, field, mod-mod-pow}
 use Rattle.bits.specs.Bits.{digit, bitOf, bitsOf, numberOf, shiftIn, shiftAll}
 
 -- bit i + 1 of a number is bit i of its half
@@ -53,6 +54,25 @@ unfolding bitsOf
 bits-at zero n i h = absurd (not-suc-le-zero h)
 bits-at (suc w) n zero h = refl
 bits-at (suc w) n (suc i) h = bits-at w (n / 2) i (le-of-suc-le-suc h) ∙ sym (bit-suc n i)
+
+-- the lowest bit is 1 exactly if the number is odd
+pub bit-low : (n : ℕ) → bitOf n 0 ≡ eqb (n % 2) 1
+unfolding bitOf
+bit-low n = rw (div-one n)
+
+-- a + b bits: a bits, and b bits of what is above them
+pub bits-add : (a b n : ℕ) → bitsOf (a + b) n ≡ bitsOf a n ++ bitsOf b (n / 2 ^ a)
+unfolding bitsOf
+bits-add zero b n = rw (zero-add, div-one)
+bits-add (suc a) b n = rw (suc-add, bits-add a b (n / 2), div-div-eq-div-mul, ← pow-succ')
+
+-- a bits don't see what is above them
+pub bits-mod : (a n : ℕ) → bitsOf a (n % 2 ^ a) ≡ bitsOf a n
+unfolding bitsOf
+bits-mod zero n = refl
+bits-mod (suc a) n =
+    let low : bitOf (n % 2 ^ suc a) 0 ≡ bitOf n 0 = rw (bit-low (n % 2 ^ suc a), bit-low n, rw add-one at (mod-mod-pow n a 1)) in
+    rw (low, rw add-one at (field n a 1), bits-mod a (n / 2))
 
 spread : (d a p : ℕ) → d * p + a * (2 * p) ≡ (d + 2 * a) * p
 spread d a p = simp (add-mul, mul-assoc, mul-left-comm)

@@ -1,0 +1,19 @@
+-- The numbers of the answers (document 01, the table of "Events and what they return"). Assumes nothing.
+use Prim.Native.Nat.{ℕ}
+use Rattle.answer.specs.declared.Answer.{Answer}
+use Rattle.answer.specs.declared.Answer.the-variants.{Accepted, EventCode, Reading, ImageLength, RomNumber, Configuration, RecordRange, DumpForm, LineCrc, LinePage, Cleared, Counts, Places}
+
+abbrev pub answerNumber : Answer → ℕ
+answerNumber Accepted = 0
+answerNumber EventCode = 1
+answerNumber Reading = 2
+answerNumber ImageLength = 3
+answerNumber RomNumber = 4
+answerNumber Configuration = 5
+answerNumber RecordRange = 6
+answerNumber DumpForm = 7
+answerNumber LineCrc = 8
+answerNumber LinePage = 9
+answerNumber Cleared = 10
+answerNumber Counts = 11
+answerNumber Places = 12
