@@ -11,7 +11,7 @@ use Rattle.bits.specs.Choose.{if_then_else_}
 use Rattle.bits.specs.Bits.{bitOf, bitsOf, shiftIn, shiftAll}
 use Rattle.bits.specs.Bits.Laws.{length-bits, heard-whole}
 use Rattle.select.specs.Select.{keeps, clears, resetSelect, romCommand, commandBit, following, readBit, heardBit, slotAt, slotOf}
-use Rattle.select.specs.Select.Laws.{command-more, command-last, following-more, read-more, read-last, heard-right-more, heard-right-last, heard-wrong}
+use Rattle.select.specs.Select.Laws.{command-more, command-last, following-more, read-more, read-last, heard-right-more, heard-right-last, heard-wrong, known, rom-unknown, joins, rom-joined}
 use Rattle.select.specs.Runs.{Ran, run, released, searchWith, searchAnswers}
 use Rattle.select.specs.declared.Choosing.{Choosing}
 use Rattle.select.specs.declared.Choosing.the-variants.{Silent, Command, Reading, Matching, Giving, Complementing, Awaiting, Selected}
@@ -106,27 +106,27 @@ pub record Telling : Type 0 where
   pub slots : Bool → List Bool
   pub line : Bool → Bool → List Bool
   pub tells : (number : ℕ) (alarm mark bit : Bool) (at : ℕ) (rest : List Bool) →
-    run (keeps mark (stage at)) number alarm (slots bit ++ rest) ≡
-    follows (line (bitOf number at) bit) (run (heardBit number at bit (stage (following at)) mark) number alarm rest)
+      run (keeps mark (stage at)) number alarm (slots bit ++ rest) ≡
+      follows (line (bitOf number at) bit) (run (heardBit number at bit (stage (following at)) mark) number alarm rest)
 
-pub matching : Telling
+unfoldable pub matching : Telling
 unfolding run slotOf slotAt
 matching =
     record {
       stage = Matching;
       slots = λ bit. bit ∷ [];
       line = λ own bit. bit ∷ [];
-      tells = λ number alarm mark bit at rest. refl
+      tells = λ number alarm mark bit at rest. refl;
     }
 
-pub searching : Telling
+unfoldable pub searching : Telling
 unfolding run slotOf slotAt
 searching =
     record {
       stage = Giving;
       slots = λ choice. true ∷ true ∷ choice ∷ [];
       line = λ own choice. own ∷ not own ∷ choice ∷ [];
-      tells = λ number alarm mark bit at rest. simp (and-true (bitOf number at), and-true (not (bitOf number at)))
+      tells = λ number alarm mark bit at rest. simp (and-true (bitOf number at), and-true (not (bitOf number at)));
     }
 
 -- one bit that is right, with more to come
@@ -192,3 +192,74 @@ told-other way number alarm mark (bit ∷ bits) at h other = by (Bool·beq (bitO
         (ap (λ (r : Ran). r .select) (told-right way number alarm mark at rest (omega arith)) ∙
         onward (omega arith) (left-other same))
     by false e onward = ap (λ (r : Ran). r .select) (told-wrong way number alarm mark bit at rest e)
+
+-- bit by bit as they are
+flat-single : (bits : List Bool) → flatMap (λ bit. bit ∷ []) bits ≡ bits
+unfolding flatMap
+flat-single [] = refl
+flat-single (bit ∷ bits) = ap (_∷_ bit) (flat-single bits)
+
+-- "Match 55h": with the number's bits the tag is selected and marked
+pub run-match : (select : Select) (number : ℕ) (alarm : Bool) →
+    run (resetSelect select) number alarm (bitsOf 8 0x55 ++ bitsOf 64 number) ≡
+    record { select = keeps true Selected; line = bitsOf 8 0x55 ++ bitsOf 64 number }
+unfolding romCommand matching
+run-match select number alarm =
+    after-command select number 0x55 alarm (bitsOf 64 number) (omega arith) ∙
+    ap (follows (bitsOf 8 0x55)) (rw (div-one, flat-single (bitsOf 64 number)) at (told-whole matching number alarm false 63 0 refl))
+
+-- and with any other 64 bits it is silent
+pub run-match-other : (select : Select) (number : ℕ) (alarm : Bool) (bits : List Bool) → length bits ≡ 64 → (bits ≡ bitsOf 64 number → ⊥) →
+    run (resetSelect select) number alarm (bitsOf 8 0x55 ++ bits) .select ≡ clears Silent
+unfolding romCommand matching
+run-match-other select number alarm bits h other =
+    ap (λ (r : Ran). r .select) (after-command select number 0x55 alarm bits (omega arith)) ∙
+    rw (flat-single bits) at (told-other matching number alarm false bits 0 (omega arith) (rw (h, div-one) other))
+
+-- "Search F0h", and "Conditional Search ECh .. joined only if" there is an alarm: a pass whose choices are the number's bits selects
+-- and marks the tag, which answers bit by bit
+pub run-search : (select : Select) (number byte : ℕ) (alarm : Bool) → byte < 256 → joins byte alarm ≡ true →
+    run (resetSelect select) number alarm (bitsOf 8 byte ++ searchWith (bitsOf 64 number)) ≡
+    record { select = keeps true Selected; line = bitsOf 8 byte ++ searchAnswers (bitsOf 64 number) }
+unfolding searching
+run-search select number byte alarm h joined =
+    after-command select number byte alarm (searchWith (bitsOf 64 number)) h ∙
+    rw (rom-joined byte (select .mark) alarm joined) (ap (follows (bitsOf 8 byte)) (rw div-one at (told-whole searching number alarm false 63 0 refl)))
+
+-- a choice that differs silences it
+pub run-search-other : (select : Select) (number byte : ℕ) (alarm : Bool) (choices : List Bool) → byte < 256 → joins byte alarm ≡ true →
+    length choices ≡ 64 → (choices ≡ bitsOf 64 number → ⊥) →
+    run (resetSelect select) number alarm (bitsOf 8 byte ++ searchWith choices) .select ≡ clears Silent
+unfolding searching
+run-search-other select number byte alarm choices h joined whole other =
+    ap (λ (r : Ran). r .select) (after-command select number byte alarm (searchWith choices) h) ∙
+    rw (rom-joined byte (select .mark) alarm joined) (told-other searching number alarm false choices 0 (omega arith) (rw (whole, div-one) other))
+
+-- without an alarm a Conditional Search is not joined
+pub run-unjoined : (select : Select) (number : ℕ) (bits : List Bool) →
+    run (resetSelect select) number false (bitsOf 8 0xEC ++ bits) ≡ record { select = clears Silent; line = bitsOf 8 0xEC ++ bits }
+unfolding romCommand
+run-unjoined select number bits =
+    after-command select number 0xEC false bits (omega arith) ∙ ap (follows (bitsOf 8 0xEC)) (run-silent false number false bits)
+
+-- ---- Skip, Resume, and any other byte
+
+-- "Skip CCh"
+pub run-skip : (select : Select) (number : ℕ) (alarm : Bool) →
+    run (resetSelect select) number alarm (bitsOf 8 0xCC) ≡ record { select = clears Selected; line = bitsOf 8 0xCC }
+unfolding romCommand
+run-skip select number alarm = run-command select number 0xCC alarm (omega arith)
+
+-- "Resume needs" the mark
+pub run-resume : (select : Select) (number : ℕ) (alarm : Bool) →
+    run (resetSelect select) number alarm (bitsOf 8 0xA5) ≡
+    record { select = keeps (select .mark) (if select .mark then Selected else Silent); line = bitsOf 8 0xA5 }
+unfolding romCommand
+run-resume select number alarm = run-command select number 0xA5 alarm (omega arith)
+
+-- "Any other byte: silent until reset"
+pub run-unknown : (select : Select) (number byte : ℕ) (alarm : Bool) (bits : List Bool) → byte < 256 → known byte ≡ false →
+    run (resetSelect select) number alarm (bitsOf 8 byte ++ bits) ≡ record { select = keeps (select .mark) Silent; line = bitsOf 8 byte ++ bits }
+run-unknown select number byte alarm bits h other =
+    after-command select number byte alarm bits h ∙
+    rw (rom-unknown byte (select .mark) alarm other) (ap (follows (bitsOf 8 byte)) (run-silent (select .mark) number alarm bits))

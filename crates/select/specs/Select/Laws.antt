@@ -1,9 +1,9 @@
 -- What one slot does, in the words that runs of slots and the record's ranges are proved by. Assumes nothing.
 use mathlib.Core.Path.{_≡_, refl, sym, ap, _∙_}
-use mathlib.Core.Bool.{Bool, true, false, _||_, Bool·beq}
+use mathlib.Core.Bool.{Bool, true, false, _&&_, _||_, Bool·beq}
 use Prim.Native.Nat.{ℕ, _+_, _<_, _≤_}
 use native.Mathlib.Omega.{arith}
-use borrow.Author.Tests.{lt-ltb, le-ltb, ltb-true, ne-eqb, eqb-false}
+use borrow.Author.Tests.{lt-ltb, le-ltb, ltb-true, eqb-true}
 use lib.Dec.{ltb, eqb}
 use Rattle.bits.specs.Choose.{if_then_else_}
 use Rattle.bits.specs.Bits.{bitOf, shiftIn}
@@ -85,13 +85,31 @@ slots-agree select number bit a b same = by (asksAlarm select bit) refl
     by true asked = ap (slotOf select number bit) (same asked)
     by false asked = alarm-unasked select number bit a b asked
 
+-- "Conditional Search is joined only if BOR, THF or TLF is 1", Search always
+unfoldable pub joins : ℕ → Bool → Bool
+joins byte alarm = eqb byte 0xF0 || (eqb byte 0xEC && alarm)
+
+pub rom-joined : (byte : ℕ) (mark alarm : Bool) → joins byte alarm ≡ true → romCommand byte mark alarm ≡ clears (Giving 0)
+unfolding romCommand joins
+rom-joined byte mark alarm = by (eqb byte 0xF0) (eqb byte 0xEC) alarm refl refl
+  where
+    by : (search conditional alarm : Bool) → eqb byte 0xF0 ≡ search → eqb byte 0xEC ≡ conditional → (search || (conditional && alarm)) ≡ true → romCommand byte mark alarm ≡ clears (Giving 0)
+    by true conditional alarm e f h = rw (eqb-true byte 0xF0 e)
+    by false true true e f h = rw (eqb-true byte 0xEC f)
+    by false true false e f h = cc
+    by false false alarm e f h = cc
+
 -- ---- the Resume mark
 
 -- "Read, Match, both Searches and Skip clear the Resume mark"
 unfoldable pub clearing : ℕ → Bool
 clearing byte = eqb byte 0x33 || eqb byte 0x55 || eqb byte 0xF0 || eqb byte 0xEC || eqb byte 0xCC
 
--- this slot is the last bit of such a command
+-- these and Resume are the commands there are
+unfoldable pub known : ℕ → Bool
+known byte = clearing byte || eqb byte 0xA5
+
+-- this slot is the last bit of a command that clears the mark
 unfoldable pub endsClearing : Choosing → Bool → Bool
 endsClearing (Command heard count) bit = if ltb count 7 then false else clearing (shiftIn 8 heard bit)
 endsClearing Silent bit = false
@@ -113,21 +131,35 @@ endsWhole (Giving at) number bit = false
 endsWhole (Complementing at) number bit = false
 endsWhole Selected number bit = false
 
-rom-mark : (byte : ℕ) (mark alarm : Bool) → romCommand byte mark alarm .mark ≡ (if clearing byte then false else mark)
-unfolding romCommand clearing
-rom-mark byte mark alarm = by (eqb byte 0x33) (eqb byte 0x55) (eqb byte 0xF0) (eqb byte 0xEC) (eqb byte 0xCC) (eqb byte 0xA5)
+-- a command that is known, and one that is not
+rom-cases : (P : Select → Bool → Bool → Type 0) (byte : ℕ) (mark alarm : Bool) →
+    ((k : Choosing) → P (clears k) true true) → ((k : Choosing) → P (keeps mark k) false true) → P (keeps mark Silent) false false →
+    P (romCommand byte mark alarm) (clearing byte) (known byte)
+unfolding romCommand clearing known
+rom-cases P byte mark alarm cleared resumed unknown =
+    by (eqb byte 0x33) (eqb byte 0x55) (eqb byte 0xF0) (eqb byte 0xEC) (eqb byte 0xCC) (eqb byte 0xA5)
   where
     by :
         (read match search conditional skip resume : Bool) →
-        (if read then clears (Reading 0) else if match then clears (Matching 0) else if search then clears (Giving 0) else if conditional then clears (if alarm then Giving 0 else Silent) else if skip then clears Selected else if resume then keeps mark (if mark then Selected else Silent) else keeps mark Silent) .mark ≡
-        (if read || match || search || conditional || skip then false else mark)
-    by true b c d e f = refl
-    by false true c d e f = refl
-    by false false true d e f = refl
-    by false false false true e f = refl
-    by false false false false true f = refl
-    by false false false false false true = refl
-    by false false false false false false = refl
+        P
+        (if read then clears (Reading 0) else if match then clears (Matching 0) else if search then clears (Giving 0) else if conditional then clears (if alarm then Giving 0 else Silent) else if skip then clears Selected else if resume then keeps mark (if mark then Selected else Silent) else keeps mark Silent)
+        (read || match || search || conditional || skip)
+        (read || match || search || conditional || skip || resume)
+    by true b c d e f = cleared _
+    by false true c d e f = cleared _
+    by false false true d e f = cleared _
+    by false false false true e f = cleared _
+    by false false false false true f = cleared _
+    by false false false false false true = resumed _
+    by false false false false false false = unknown
+
+rom-mark : (byte : ℕ) (mark alarm : Bool) → romCommand byte mark alarm .mark ≡ (if clearing byte then false else mark)
+rom-mark byte mark alarm =
+    rom-cases (λ s cleared known. s .mark ≡ (if cleared then false else mark)) byte mark alarm (λ k. refl) (λ k. refl) refl
+
+pub rom-unknown : (byte : ℕ) (mark alarm : Bool) → known byte ≡ false → romCommand byte mark alarm ≡ keeps mark Silent
+rom-unknown byte mark alarm =
+    rom-cases (λ s cleared known. known ≡ false → s ≡ keeps mark Silent) byte mark alarm (λ k e. cc) (λ k e. cc) (λ e. refl)
 
 command-mark : (heard count : ℕ) (mark bit alarm : Bool) → commandBit heard count mark bit alarm .mark ≡ (if endsClearing (Command heard count) bit then false else mark)
 unfolding commandBit endsClearing
