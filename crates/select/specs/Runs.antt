@@ -1,11 +1,12 @@
 -- Runs of slots after a reset: what the line carries, and where choosing stands at the end. Assumes nothing.
-use mathlib.Core.Bool.{Bool, true, false, not}
+use mathlib.Core.Bool.{Bool, true, false, not, _&&_}
 use mathlib.Core.List.{List, [], _∷_, _++_, flatMap}
 use Prim.Native.Nat.{ℕ}
 use lib.ListN.{replicate}
-use Rattle.select.specs.Select.{slotOf}
+use Rattle.select.specs.Select.{slotOf, isSelected}
 use Rattle.select.specs.declared.Select.{Select}
 pub mod Laws
+pub mod Through
 
 -- what a run of slots gives
 pub record Ran : Type 0 where
@@ -19,6 +20,12 @@ run select number alarm (bit ∷ bits) =
     let slot = slotOf select number bit alarm in
     let rest = run (slot .select) number alarm bits in
     record { select = rest .select; line = slot .line ∷ rest .line }
+
+-- in each of these slots the tag is still being chosen: none is a memory command's
+unfoldable pub chosenIn : Select → ℕ → Bool → List Bool → Bool
+chosenIn select number alarm [] = true
+chosenIn select number alarm (bit ∷ bits) =
+    not (isSelected select) && chosenIn (slotOf select number bit alarm .select) number alarm bits
 
 -- n slots with the line released
 abbrev pub released : ℕ → List Bool

@@ -84,6 +84,20 @@ slotAt Selected mark number bit alarm = listens bit (keeps mark Selected)
 unfoldable pub slotOf : Select → ℕ → Bool → Bool → Chosen
 slotOf select number bit alarm = slotAt (select .choosing) (select .mark) number bit alarm
 
+-- "go on to memory commands": the tag is chosen, and its slots are theirs
+unfoldable pub isChosen : Choosing → Bool
+isChosen Selected = true
+isChosen Silent = false
+isChosen (Command heard count) = false
+isChosen (Reading at) = false
+isChosen (Matching at) = false
+isChosen (Giving at) = false
+isChosen (Complementing at) = false
+isChosen (Awaiting at) = false
+
+abbrev pub isSelected : Select → Bool
+isSelected select = isChosen (select .choosing)
+
 -- "when the command byte ends": this slot is the last bit of a Conditional Search command
 unfoldable pub endsConditional : Choosing → Bool → Bool
 endsConditional (Command heard count) bit = if ltb count 7 then false else eqb (shiftIn 8 heard bit) 0xEC

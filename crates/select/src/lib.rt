@@ -2,7 +2,7 @@
 // It knows nothing of what a chosen tag does; once the tag is selected the memory commands are another crate's.
 // Every function answers any input, also a place past the last bit.
 ghost use mathlib.Core.Path.{_≡_};
-ghost use Rattle.select.specs.Select.{newSelect, resetSelect, slotOf, asksAlarm, selectInRange, commandBit, romCommand, keeps, readBit, heardBit, following, sends};
+ghost use Rattle.select.specs.Select.{newSelect, resetSelect, slotOf, isSelected, asksAlarm, selectInRange, commandBit, romCommand, keeps, readBit, heardBit, following, sends};
 
 // Where the choosing of a tag stands.
 pub enum Choosing {
@@ -69,6 +69,17 @@ pub fn in_range(select: Select) -> bool
         Choosing::Awaiting(at) => at < 64,
         Choosing::Selected => true,
     }
+}
+
+// Whether the tag is chosen: its slots are those of a memory command.
+pub fn selected(select: Select) -> bool
+    ensures { λ r. ⌜ r ≡ isSelected select ⌝ }
+{
+    let choosing = select.choosing;
+    let Choosing::Selected = choosing else {
+        return false;
+    };
+    true
 }
 
 // Whether a slot with the master's `bit` ends the byte of a Conditional Search: the one slot in which `alarm` counts.

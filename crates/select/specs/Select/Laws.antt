@@ -207,7 +207,7 @@ unfolding choosingInRange
 reset-in-range select = refl
 
 -- a choice between two that are in range
-either : {A : Type 0} (P : A → Type 0) (test : Bool) {a b : A} → P a → P b → P (if test then a else b)
+pub either : {A : Type 0} (P : A → Type 0) (test : Bool) {a b : A} → P a → P b → P (if test then a else b)
 either P true p q = p
 either P false p q = q
 
@@ -225,7 +225,7 @@ rom-in-range byte mark alarm =
     (either P (eqb byte 0xCC) refl
     (either P (eqb byte 0xA5) (either InRange mark refl refl) refl)))))
 
-following-lt : (at : ℕ) → at < 64 → following at < 64
+pub following-lt : (at : ℕ) → at < 64 → following at < 64
 unfolding following
 following-lt at h = by (ltb at 63) refl
   where

@@ -1,0 +1,134 @@
+-- How long choosing lasts: before the tag is selected, the slots of a ROM command are choosing's alone. Assumes nothing.
+use mathlib.Core.Path.{_≡_, refl, sym, ap, _∙_}
+use mathlib.Core.Bool.{Bool, true, false, not, _&&_, Bool·beq, and-assoc}
+use mathlib.Core.List.{List, [], _∷_, _++_}
+use Prim.Native.Nat.{ℕ, zero, suc, _+_, _*_, _<_, _≤_}
+use native.Mathlib.Omega.{arith}
+use borrow.Author.Tests.{ltb-true, ltb-false}
+use lib.Dec.{ltb, eqb}
+use lib.ListN.{length}
+use Rattle.bits.specs.Choose.{if_then_else_}
+use Rattle.bits.specs.Bits.{bitOf, bitsOf, shiftIn}
+use Rattle.bits.specs.Bits.Laws.{length-bits}
+use Rattle.select.specs.Select.{keeps, clears, resetSelect, romCommand, commandBit, following, readBit, heardBit, slotAt, slotOf, isChosen, isSelected}
+use Rattle.select.specs.Select.Laws.{either, following-more}
+use Rattle.select.specs.Runs.{Ran, run, chosenIn}
+use Rattle.select.specs.Runs.Laws.{run-command}
+use Rattle.select.specs.declared.Choosing.{Choosing}
+use Rattle.select.specs.declared.Choosing.the-variants.{Silent, Command, Reading, Matching, Giving, Complementing, Awaiting, Selected}
+use Rattle.select.specs.declared.Select.{Select}
+
+-- at least n slots go by before the tag can be selected
+unfoldable pub Lasts : Choosing → ℕ → Type 0
+Lasts Silent n = Unit
+Lasts (Command heard count) n = count + n ≤ 8
+Lasts (Reading at) n = at + n ≤ 64
+Lasts (Matching at) n = at + n ≤ 64
+Lasts (Giving at) n = 3 * at + n ≤ 192
+Lasts (Complementing at) n = 3 * at + n ≤ 191
+Lasts (Awaiting at) n = 3 * at + n ≤ 190
+Lasts Selected n = n ≡ 0
+
+-- a command byte leads to no more than it needs
+lasts-none : (byte : ℕ) (mark alarm : Bool) → Lasts (romCommand byte mark alarm .choosing) 0
+unfolding romCommand Lasts
+lasts-none byte mark alarm =
+    let P : Select → Type 0 = λ s. Lasts (s .choosing) 0 in
+    let Q : Choosing → Type 0 = λ k. Lasts k 0 in
+    either P (eqb byte 0x33) (omega arith)
+    (either P (eqb byte 0x55) (omega arith)
+    (either P (eqb byte 0xF0) (omega arith)
+    (either P (eqb byte 0xEC) (either Q alarm (omega arith) tt)
+    (either P (eqb byte 0xCC) refl
+    (either P (eqb byte 0xA5) (either Q mark refl tt) tt)))))
+
+command-lasts : (heard count n : ℕ) (mark bit alarm : Bool) → count + suc n ≤ 8 → Lasts (commandBit heard count mark bit alarm .choosing) n
+unfolding commandBit Lasts
+command-lasts heard count n mark bit alarm h = by (ltb count 7) refl
+  where
+    by : (more : Bool) → ltb count 7 ≡ more → Lasts ((if more then keeps mark (Command (shiftIn 8 heard bit) (count + 1)) else romCommand (shiftIn 8 heard bit) mark alarm) .choosing) n
+    by true e = omega (arith, ltb-true count 7 e)
+    by false e =
+        let none : n ≡ 0 = omega (arith, ltb-false count 7 e) in
+        rw none (lasts-none (shiftIn 8 heard bit) mark alarm)
+
+read-lasts : (at n : ℕ) (mark : Bool) → at + suc n ≤ 64 → Lasts (readBit at mark .choosing) n
+unfolding readBit following Lasts
+read-lasts at n mark h = by (ltb at 63) refl
+  where
+    by : (more : Bool) → ltb at 63 ≡ more → Lasts (if more then Reading (if more then at + 1 else at) else Selected) n
+    by true e = omega arith
+    by false e = omega (arith, ltb-false at 63 e)
+
+-- `next` is what lasts where bits are left
+heard-lasts : (number at n : ℕ) (bit : Bool) (next : Choosing) (mark : Bool) → (at < 63 → Lasts next n) → (63 ≤ at → n ≡ 0) → Lasts (heardBit number at bit next mark .choosing) n
+unfolding heardBit Lasts
+heard-lasts number at n bit next mark more last = by (Bool·beq (bitOf number at) bit) (ltb at 63) refl
+  where
+    by : (right left : Bool) → ltb at 63 ≡ left → Lasts ((if right then (if left then keeps mark next else keeps true Selected) else keeps mark Silent) .choosing) n
+    by true true e = more (ltb-true at 63 e)
+    by true false e = last (ltb-false at 63 e)
+    by false left e = tt
+
+slot-lasts : (select : Select) (number n : ℕ) (bit alarm : Bool) → Lasts (select .choosing) (suc n) → Lasts (slotOf select number bit alarm .select .choosing) n
+unfolding slotOf slotAt Lasts
+slot-lasts select number n bit alarm h = at (select .choosing) (select .mark) h
+  where
+    at : (k : Choosing) (mark : Bool) → Lasts k (suc n) → Lasts (slotAt k mark number bit alarm .select .choosing) n
+    at Silent mark h = tt
+    at (Command heard count) mark h = command-lasts heard count n mark bit alarm h
+    at (Reading i) mark h = read-lasts i n mark h
+    at (Matching i) mark h =
+        heard-lasts number i n bit (Matching (following i)) mark (λ m. rw (following-more i m) (omega arith)) (λ l. omega arith)
+    at (Giving i) mark h = omega arith
+    at (Complementing i) mark h = omega arith
+    at (Awaiting i) mark h =
+        heard-lasts number i n bit (Giving (following i)) mark (λ m. rw (following-more i m) (omega arith)) (λ l. omega arith)
+    at Selected mark h = omega arith
+
+unchosen : (k : Choosing) (n : ℕ) → Lasts k (suc n) → isChosen k ≡ false
+unfolding Lasts isChosen
+unchosen Silent n h = refl
+unchosen (Command heard count) n h = refl
+unchosen (Reading at) n h = refl
+unchosen (Matching at) n h = refl
+unchosen (Giving at) n h = refl
+unchosen (Complementing at) n h = refl
+unchosen (Awaiting at) n h = refl
+unchosen Selected n h = absurd (omega arith)
+
+-- choosing is not over while it lasts
+pub chosen-while : (select : Select) (number : ℕ) (alarm : Bool) (bits : List Bool) → Lasts (select .choosing) (length bits) → chosenIn select number alarm bits ≡ true
+unfolding chosenIn
+chosen-while select number alarm [] h = refl
+chosen-while select number alarm (bit ∷ bits) h =
+    rw (unchosen (select .choosing) (length bits) h)
+    (chosen-while (slotOf select number bit alarm .select) number alarm bits (slot-lasts select number (length bits) bit alarm h))
+
+-- run after run
+pub chosen-append : (select : Select) (number : ℕ) (alarm : Bool) (bits more : List Bool) →
+    chosenIn select number alarm (bits ++ more) ≡ (chosenIn select number alarm bits && chosenIn (run select number alarm bits .select) number alarm more)
+unfolding chosenIn run
+chosen-append select number alarm [] more = refl
+chosen-append select number alarm (bit ∷ bits) more =
+    rw (chosen-append (slotOf select number bit alarm .select) number alarm bits more, and-assoc)
+
+byte-lasts : (byte : ℕ) → Lasts (Command 0 0) (length (bitsOf 8 byte))
+unfolding Lasts
+byte-lasts byte = omega (arith, length-bits 8 byte)
+
+-- from a reset to the end of the command byte, and on
+pub chosen-after-command : (select : Select) (number byte : ℕ) (alarm : Bool) (bits : List Bool) → byte < 256 →
+    chosenIn (resetSelect select) number alarm (bitsOf 8 byte ++ bits) ≡ chosenIn (romCommand byte (select .mark) alarm) number alarm bits
+chosen-after-command select number byte alarm bits h =
+    rw (
+      chosen-append (resetSelect select) number alarm (bitsOf 8 byte) bits,
+      chosen-while (resetSelect select) number alarm (bitsOf 8 byte) (byte-lasts byte),
+      run-command select number byte alarm h,
+    )
+
+-- a whole command, over as many slots as it lasts
+pub chosen-through : (select : Select) (number byte : ℕ) (alarm : Bool) (bits : List Bool) → byte < 256 → Lasts (romCommand byte (select .mark) alarm .choosing) (length bits) →
+    chosenIn (resetSelect select) number alarm (bitsOf 8 byte ++ bits) ≡ true
+chosen-through select number byte alarm bits h lasts =
+    chosen-after-command select number byte alarm bits h ∙ chosen-while (romCommand byte (select .mark) alarm) number alarm bits lasts
