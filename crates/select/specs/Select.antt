@@ -10,6 +10,8 @@ use Rattle.select.specs.declared.Choosing.the-variants.{Silent, Command,
 use Rattle.select.specs.declared.Select.{Select}
 use Rattle.select.specs.declared.Chosen.{Chosen}
 pub mod Laws
+pub mod Mark
+pub mod Ranges
 
 -- choosing goes on with the Resume mark left as it is, and with the mark cleared
 abbrev pub keeps : Bool → Choosing → Select
@@ -52,8 +54,8 @@ following at = if ltb at 63 then at + 1 else at
 unfoldable pub readBit : ℕ → Bool → Select
 readBit at mark = keeps mark (if ltb at 63 then Reading (following at) else Selected)
 
--- Bit `at` of Match or Search is heard: the tag "drops out if it differs"; `next` follows while
--- bits are left; "a whole Match or either whole Search sets" the mark, and goes on to memory commands.
+-- Bit `at` of Match or Search is heard: the tag "drops out if it differs"; `next` follows while bits are left; "a whole Match or
+-- either whole Search sets" the mark, and goes on to memory commands.
 unfoldable pub heardBit : ℕ → ℕ → Bool → Choosing → Bool → Select
 heardBit number at bit next mark =
     if Bool·beq (bitOf number at) bit then (if ltb at 63 then keeps mark next else keeps true Selected)
@@ -98,19 +100,20 @@ isChosen (Awaiting at) = false
 abbrev pub isSelected : Select → Bool
 isSelected select = isChosen (select .choosing)
 
--- "when the command byte ends": this slot is the last bit of a Conditional Search command
-unfoldable pub endsConditional : Choosing → Bool → Bool
-endsConditional (Command heard count) bit = if ltb count 7 then false else eqb (shiftIn 8 heard bit) 0xEC
-endsConditional Silent bit = false
-endsConditional (Reading at) bit = false
-endsConditional (Matching at) bit = false
-endsConditional (Giving at) bit = false
-endsConditional (Complementing at) bit = false
-endsConditional (Awaiting at) bit = false
-endsConditional Selected bit = false
+-- "when the command byte ends": this slot is the last bit of a ROM command byte of which `these` is true
+unfoldable pub endsCommand : (ℕ → Bool) → Choosing → Bool → Bool
+endsCommand these (Command heard count) bit = if ltb count 7 then false else these (shiftIn 8 heard bit)
+endsCommand these Silent bit = false
+endsCommand these (Reading at) bit = false
+endsCommand these (Matching at) bit = false
+endsCommand these (Giving at) bit = false
+endsCommand these (Complementing at) bit = false
+endsCommand these (Awaiting at) bit = false
+endsCommand these Selected bit = false
 
+-- the one slot in which the alarm counts: it ends a Conditional Search command
 abbrev pub asksAlarm : Select → Bool → Bool
-asksAlarm select bit = endsConditional (select .choosing) bit
+asksAlarm select bit = endsCommand (λ byte. eqb byte 0xEC) (select .choosing) bit
 
 -- The ranges: fewer than 8 bits of a command byte, and one of the number's 64 bits.
 unfoldable pub choosingInRange : Choosing → Bool

@@ -7,7 +7,7 @@ use mathlib.Core.List.{List, [], _∷_}
 use Prim.Native.Nat.{ℕ}
 use mathlib.Core.Path.{_≡_, refl, sym}
 use types.Run.{OneOf, miss}
-use Rattle.select.specs.Select.{endsConditional}
+use Rattle.select.specs.Select.{endsCommand}
 use Rattle.select.specs.declared.Choosing.{Choosing}
 use Rattle.select.specs.declared.Choosing.the-variants.{Silent, Command, Reading, Matching, Giving, Complementing, Awaiting, Selected}
 use Rattle.select.proofs.Choosing.{the-type}
@@ -18,32 +18,32 @@ use Rattle.select.proofs.asks_alarm.Tie as tie
 abbrev others : List ℕ
 others = 0 ∷ 2 ∷ 3 ∷ 4 ∷ 5 ∷ 6 ∷ 7 ∷ []
 
-others-never : (k : Choosing) (bit : Bool) → OneOf others (tagOf the-type k) → endsConditional k bit ≡ false
-unfolding endsConditional
-others-never Silent bit h = refl
-others-never (Command heard count) bit h = absurd (miss others 1 tt h)
-others-never (Reading at) bit h = refl
-others-never (Matching at) bit h = refl
-others-never (Giving at) bit h = refl
-others-never (Complementing at) bit h = refl
-others-never (Awaiting at) bit h = refl
-others-never Selected bit h = refl
+others-never : (these : ℕ → Bool) (k : Choosing) (bit : Bool) → OneOf others (tagOf the-type k) → endsCommand these k bit ≡ false
+unfolding endsCommand
+others-never these Silent bit h = refl
+others-never these (Command heard count) bit h = absurd (miss others 1 tt h)
+others-never these (Reading at) bit h = refl
+others-never these (Matching at) bit h = refl
+others-never these (Giving at) bit h = refl
+others-never these (Complementing at) bit h = refl
+others-never these (Awaiting at) bit h = refl
+others-never these Selected bit h = refl
 
 enum-known-choosing : tie.Need-enum-known-choosing
 enum-known-choosing c = search needs
 
 returns : tie.Need-returns
-returns c = sym (others-never _ _ (c .match .keys2))
+returns c = sym (others-never _ _ _ (c .match .keys2))
 
 shift-in8-requires : tie.Need-shift-in8-requires
 shift-in8-requires c κs = search needs
 
 returns-2 : tie.Need-returns-2
-unfolding endsConditional
+unfolding endsCommand
 returns-2 c = simp (c .before .before .choosing .given .1, lt-ltb _ _ (c .if1 .taken))
 
 returns-3 : tie.Need-returns-3
-unfolding endsConditional
+unfolding endsCommand
 returns-3 c =
     simp (c .shift-in8 .ensures, c .before .before .before .choosing .given .1, le-ltb _ _ (c .before .if1 .left))
 

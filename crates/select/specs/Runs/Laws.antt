@@ -2,19 +2,20 @@
 use mathlib.Core.Path.{_≡_, refl, sym, ap, _∙_}
 use mathlib.Core.Bool.{Bool, true, false, not, Bool·beq, and-true}
 use mathlib.Core.List.{List, [], _∷_, _++_, flatMap}
-use Prim.Native.Nat.{ℕ, zero, suc, _+_, _*_, _/_, _^_, _<_, _≤_}
-use native.Mathlib.Nat.{div-one, div-div-eq-div-mul, pow-succ', mul-comm}
+use Prim.Native.Nat.{ℕ, zero, suc, _+_, _/_, _%_, _^_, _<_, _≤_}
+use native.Mathlib.Nat.{div-one, div-div-eq-div-mul, pow-succ', mul-comm, mod-eq-of-lt}
 use native.Mathlib.Numerals.{add-one}
 use native.Mathlib.Omega.{arith}
-use lib.ListN.{length, replicate}
+use lib.ListN.{length}
 use Rattle.bits.specs.Choose.{if_then_else_}
-use Rattle.bits.specs.Bits.{bitOf, bitsOf, shiftIn, shiftAll}
-use Rattle.bits.specs.Bits.Laws.{length-bits, heard-whole}
-use Rattle.select.specs.Select.{keeps, clears, resetSelect, romCommand, commandBit, following, readBit, heardBit, slotAt, slotOf}
-use Rattle.select.specs.Select.Laws.{command-more, command-last, following-more, read-more, read-last, heard-right-more, heard-right-last, heard-wrong, known, rom-unknown, joins, rom-joined}
+use Rattle.bits.specs.Bits.{bitOf, bitsOf, numberOf, shiftIn, shiftAll}
+use Rattle.bits.specs.Bits.Laws.{length-bits, number-bits, heard-whole}
+use Rattle.select.specs.Select.{keeps, clears, resetSelect, romCommand, following, heardBit, slotAt, slotOf}
+use Rattle.select.specs.Select.Laws.{command-more, command-last, following-more, read-more, read-last, heard-right-more, heard-right-last, heard-wrong}
+use Rattle.select.specs.Select.Mark.{known, joins, rom-unknown, rom-joined}
 use Rattle.select.specs.Runs.{Ran, run, released, searchWith, searchAnswers}
 use Rattle.select.specs.declared.Choosing.{Choosing}
-use Rattle.select.specs.declared.Choosing.the-variants.{Silent, Command, Reading, Matching, Giving, Complementing, Awaiting, Selected}
+use Rattle.select.specs.declared.Choosing.the-variants.{Silent, Command, Reading, Matching, Giving, Selected}
 use Rattle.select.specs.declared.Select.{Select}
 
 -- ---- joining runs
@@ -137,7 +138,8 @@ told-right way number alarm mark at rest h =
     rw (way .tells number alarm mark (bitOf number at) at rest, heard-right-more number at (way .stage (following at)) mark h, following-more at h)
 
 -- one bit that is wrong: silent from then on
-pub told-wrong : (way : Telling) (number : ℕ) (alarm mark bit : Bool) (at : ℕ) (rest : List Bool) → Bool·beq (bitOf number at) bit ≡ false →
+pub told-wrong : (way : Telling) (number : ℕ) (alarm mark bit : Bool) (at : ℕ) (rest : List Bool) →
+    Bool·beq (bitOf number at) bit ≡ false →
     run (keeps mark (way .stage at)) number alarm (way .slots bit ++ rest) ≡
     record { select = keeps mark Silent; line = way .line (bitOf number at) bit ++ rest }
 told-wrong way number alarm mark bit at rest h =
@@ -208,13 +210,27 @@ run-match select number alarm =
     after-command select number 0x55 alarm (bitsOf 64 number) (omega arith) ∙
     ap (follows (bitsOf 8 0x55)) (rw (div-one, flat-single (bitsOf 64 number)) at (told-whole matching number alarm false 63 0 refl))
 
+-- numbers of w bits that have the same bits are the same
+bits-same : (w : ℕ) {a b : ℕ} → a < 2 ^ w → b < 2 ^ w → bitsOf w a ≡ bitsOf w b → a ≡ b
+bits-same w {a} {b} ha hb e =
+    let same : a % 2 ^ w ≡ b % 2 ^ w = sym (number-bits w a) ∙ ap numberOf e ∙ number-bits w b in
+    rw (mod-eq-of-lt ha, mod-eq-of-lt hb) at same
+
 -- and with any other 64 bits it is silent
-pub run-match-other : (select : Select) (number : ℕ) (alarm : Bool) (bits : List Bool) → length bits ≡ 64 → (bits ≡ bitsOf 64 number → ⊥) →
+pub run-match-other : (select : Select) (number : ℕ) (alarm : Bool) (bits : List Bool) → length bits ≡ 64 →
+    (bits ≡ bitsOf 64 number → ⊥) →
     run (resetSelect select) number alarm (bitsOf 8 0x55 ++ bits) .select ≡ clears Silent
 unfolding romCommand matching
 run-match-other select number alarm bits h other =
     ap (λ (r : Ran). r .select) (after-command select number 0x55 alarm bits (omega arith)) ∙
     rw (flat-single bits) at (told-other matching number alarm false bits 0 (omega arith) (rw (h, div-one) other))
+
+-- so with those of any other number
+pub run-match-number : (select : Select) (number other : ℕ) (alarm : Bool) → number < 2 ^ 64 → other < 2 ^ 64 →
+    (other ≡ number → ⊥) →
+    run (resetSelect select) number alarm (bitsOf 8 0x55 ++ bitsOf 64 other) .select ≡ clears Silent
+run-match-number select number other alarm hn ho differ =
+    run-match-other select number alarm (bitsOf 64 other) (length-bits 64 other) (λ e. differ (bits-same 64 ho hn e))
 
 -- "Search F0h", and "Conditional Search ECh .. joined only if" there is an alarm: a pass whose choices are the number's bits selects
 -- and marks the tag, which answers bit by bit
@@ -227,7 +243,8 @@ run-search select number byte alarm h joined =
     rw (rom-joined byte (select .mark) alarm joined) (ap (follows (bitsOf 8 byte)) (rw div-one at (told-whole searching number alarm false 63 0 refl)))
 
 -- a choice that differs silences it
-pub run-search-other : (select : Select) (number byte : ℕ) (alarm : Bool) (choices : List Bool) → byte < 256 → joins byte alarm ≡ true →
+pub run-search-other : (select : Select) (number byte : ℕ) (alarm : Bool) (choices : List Bool) → byte < 256 →
+    joins byte alarm ≡ true →
     length choices ≡ 64 → (choices ≡ bitsOf 64 number → ⊥) →
     run (resetSelect select) number alarm (bitsOf 8 byte ++ searchWith choices) .select ≡ clears Silent
 unfolding searching

@@ -1,8 +1,8 @@
 -- How long choosing lasts: before the tag is selected, the slots of a ROM command are choosing's alone. Assumes nothing.
-use mathlib.Core.Path.{_≡_, refl, sym, ap, _∙_}
-use mathlib.Core.Bool.{Bool, true, false, not, _&&_, Bool·beq, and-assoc}
+use mathlib.Core.Path.{_≡_, refl, _∙_}
+use mathlib.Core.Bool.{Bool, true, false, _&&_, Bool·beq, and-assoc}
 use mathlib.Core.List.{List, [], _∷_, _++_}
-use Prim.Native.Nat.{ℕ, zero, suc, _+_, _*_, _<_, _≤_}
+use Prim.Native.Nat.{ℕ, suc, _+_, _*_, _<_, _≤_}
 use native.Mathlib.Omega.{arith}
 use borrow.Author.Tests.{ltb-true, ltb-false}
 use lib.Dec.{ltb, eqb}
@@ -10,9 +10,10 @@ use lib.ListN.{length}
 use Rattle.bits.specs.Choose.{if_then_else_}
 use Rattle.bits.specs.Bits.{bitOf, bitsOf, shiftIn}
 use Rattle.bits.specs.Bits.Laws.{length-bits}
-use Rattle.select.specs.Select.{keeps, clears, resetSelect, romCommand, commandBit, following, readBit, heardBit, slotAt, slotOf, isChosen, isSelected}
-use Rattle.select.specs.Select.Laws.{either, following-more}
-use Rattle.select.specs.Runs.{Ran, run, chosenIn}
+use Rattle.select.specs.Select.{keeps, resetSelect, romCommand, commandBit, following, readBit, heardBit, slotAt, slotOf, isChosen}
+use Rattle.select.specs.Select.Laws.{following-more}
+use Rattle.select.specs.Select.Ranges.{either}
+use Rattle.select.specs.Runs.{run, chosenIn}
 use Rattle.select.specs.Runs.Laws.{run-command}
 use Rattle.select.specs.declared.Choosing.{Choosing}
 use Rattle.select.specs.declared.Choosing.the-variants.{Silent, Command, Reading, Matching, Giving, Complementing, Awaiting, Selected}
@@ -42,11 +43,13 @@ lasts-none byte mark alarm =
     (either P (eqb byte 0xCC) refl
     (either P (eqb byte 0xA5) (either Q mark refl tt) tt)))))
 
-command-lasts : (heard count n : ℕ) (mark bit alarm : Bool) → count + suc n ≤ 8 → Lasts (commandBit heard count mark bit alarm .choosing) n
+command-lasts : (heard count n : ℕ) (mark bit alarm : Bool) → count + suc n ≤ 8 →
+    Lasts (commandBit heard count mark bit alarm .choosing) n
 unfolding commandBit Lasts
 command-lasts heard count n mark bit alarm h = by (ltb count 7) refl
   where
-    by : (more : Bool) → ltb count 7 ≡ more → Lasts ((if more then keeps mark (Command (shiftIn 8 heard bit) (count + 1)) else romCommand (shiftIn 8 heard bit) mark alarm) .choosing) n
+    by : (more : Bool) → ltb count 7 ≡ more →
+        Lasts ((if more then keeps mark (Command (shiftIn 8 heard bit) (count + 1)) else romCommand (shiftIn 8 heard bit) mark alarm) .choosing) n
     by true e = omega (arith, ltb-true count 7 e)
     by false e =
         let none : n ≡ 0 = omega (arith, ltb-false count 7 e) in
@@ -61,16 +64,19 @@ read-lasts at n mark h = by (ltb at 63) refl
     by false e = omega (arith, ltb-false at 63 e)
 
 -- `next` is what lasts where bits are left
-heard-lasts : (number at n : ℕ) (bit : Bool) (next : Choosing) (mark : Bool) → (at < 63 → Lasts next n) → (63 ≤ at → n ≡ 0) → Lasts (heardBit number at bit next mark .choosing) n
+heard-lasts : (number at n : ℕ) (bit : Bool) (next : Choosing) (mark : Bool) → (at < 63 → Lasts next n) → (63 ≤ at → n ≡ 0) →
+    Lasts (heardBit number at bit next mark .choosing) n
 unfolding heardBit Lasts
 heard-lasts number at n bit next mark more last = by (Bool·beq (bitOf number at) bit) (ltb at 63) refl
   where
-    by : (right left : Bool) → ltb at 63 ≡ left → Lasts ((if right then (if left then keeps mark next else keeps true Selected) else keeps mark Silent) .choosing) n
+    by : (right left : Bool) → ltb at 63 ≡ left →
+        Lasts ((if right then (if left then keeps mark next else keeps true Selected) else keeps mark Silent) .choosing) n
     by true true e = more (ltb-true at 63 e)
     by true false e = last (ltb-false at 63 e)
     by false left e = tt
 
-slot-lasts : (select : Select) (number n : ℕ) (bit alarm : Bool) → Lasts (select .choosing) (suc n) → Lasts (slotOf select number bit alarm .select .choosing) n
+slot-lasts : (select : Select) (number n : ℕ) (bit alarm : Bool) → Lasts (select .choosing) (suc n) →
+    Lasts (slotOf select number bit alarm .select .choosing) n
 unfolding slotOf slotAt Lasts
 slot-lasts select number n bit alarm h = at (select .choosing) (select .mark) h
   where
@@ -98,7 +104,8 @@ unchosen (Awaiting at) n h = refl
 unchosen Selected n h = absurd (omega arith)
 
 -- choosing is not over while it lasts
-pub chosen-while : (select : Select) (number : ℕ) (alarm : Bool) (bits : List Bool) → Lasts (select .choosing) (length bits) → chosenIn select number alarm bits ≡ true
+pub chosen-while : (select : Select) (number : ℕ) (alarm : Bool) (bits : List Bool) → Lasts (select .choosing) (length bits) →
+    chosenIn select number alarm bits ≡ true
 unfolding chosenIn
 chosen-while select number alarm [] h = refl
 chosen-while select number alarm (bit ∷ bits) h =
@@ -128,7 +135,8 @@ chosen-after-command select number byte alarm bits h =
     )
 
 -- a whole command, over as many slots as it lasts
-pub chosen-through : (select : Select) (number byte : ℕ) (alarm : Bool) (bits : List Bool) → byte < 256 → Lasts (romCommand byte (select .mark) alarm .choosing) (length bits) →
+pub chosen-through : (select : Select) (number byte : ℕ) (alarm : Bool) (bits : List Bool) → byte < 256 →
+    Lasts (romCommand byte (select .mark) alarm .choosing) (length bits) →
     chosenIn (resetSelect select) number alarm (bitsOf 8 byte ++ bits) ≡ true
 chosen-through select number byte alarm bits h lasts =
     chosen-after-command select number byte alarm bits h ∙ chosen-while (romCommand byte (select .mark) alarm) number alarm bits lasts
