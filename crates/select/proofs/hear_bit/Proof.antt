@@ -19,11 +19,23 @@ keep-requires-3 c κs = search needs
 
 returns : tie.Need-returns
 unfolding heardBit
-returns c = simp (c .keep .ensures, ← c .before .before .before .bit .ensures, c .before .before .if1 .taken, lt-ltb _ _ (c .before .if2 .taken))
+returns c =
+    simp (
+      c .keep .ensures,
+      ← c .before .before .before .bit .ensures,
+      c .before .before .if1 .taken,
+      lt-ltb _ _ (c .before .if2 .taken),
+    )
 
 returns-2 : tie.Need-returns-2
 unfolding heardBit
-returns-2 c = simp (c .keep2 .ensures, ← c .before .before .before .bit .ensures, c .before .before .if1 .taken, le-ltb _ _ (c .before .if2 .left))
+returns-2 c =
+    simp (
+      c .keep2 .ensures,
+      ← c .before .before .before .bit .ensures,
+      c .before .before .if1 .taken,
+      le-ltb _ _ (c .before .if2 .left),
+    )
 
 returns-3 : tie.Need-returns-3
 unfolding heardBit

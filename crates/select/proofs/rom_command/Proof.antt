@@ -66,7 +66,17 @@ returns-8 c = simp (c .keep8 .ensures, c .before .before .match .keys6, c .befor
 
 returns-9 : tie.Need-returns-9
 unfolding romCommand
-returns-9 c = let n = c .before .match .rest in simp (c .keep9 .ensures, ne-eqb _ _ (n .0 .0 .0 .0 .0 .1), ne-eqb _ _ (n .0 .0 .0 .0 .1), ne-eqb _ _ (n .0 .0 .0 .1), ne-eqb _ _ (n .0 .0 .1), ne-eqb _ _ (n .0 .1), ne-eqb _ _ (n .1))
+returns-9 c =
+    let n = c .before .match .rest in
+    simp (
+      c .keep9 .ensures,
+      ne-eqb _ _ (n .0 .0 .0 .0 .0 .1),
+      ne-eqb _ _ (n .0 .0 .0 .0 .1),
+      ne-eqb _ _ (n .0 .0 .0 .1),
+      ne-eqb _ _ (n .0 .0 .1),
+      ne-eqb _ _ (n .0 .1),
+      ne-eqb _ _ (n .1),
+    )
 
 pub rom-command-spec : {M : Type 1} → statement M
 rom-command-spec =

@@ -135,7 +135,11 @@ told-right : (way : Telling) (number : ℕ) (alarm mark : Bool) (at : ℕ) (rest
     run (keeps mark (way .stage at)) number alarm (way .slots (bitOf number at) ++ rest) ≡
     follows (way .line (bitOf number at) (bitOf number at)) (run (keeps mark (way .stage (at + 1))) number alarm rest)
 told-right way number alarm mark at rest h =
-    rw (way .tells number alarm mark (bitOf number at) at rest, heard-right-more number at (way .stage (following at)) mark h, following-more at h)
+    rw (
+      way .tells number alarm mark (bitOf number at) at rest,
+      heard-right-more number at (way .stage (following at)) mark h,
+      following-more at h,
+    )
 
 -- one bit that is wrong: silent from then on
 pub told-wrong : (way : Telling) (number : ℕ) (alarm mark bit : Bool) (at : ℕ) (rest : List Bool) →
@@ -143,7 +147,11 @@ pub told-wrong : (way : Telling) (number : ℕ) (alarm mark bit : Bool) (at : �
     run (keeps mark (way .stage at)) number alarm (way .slots bit ++ rest) ≡
     record { select = keeps mark Silent; line = way .line (bitOf number at) bit ++ rest }
 told-wrong way number alarm mark bit at rest h =
-    rw (way .tells number alarm mark bit at rest, heard-wrong number at bit (way .stage (following at)) mark h, run-silent mark number alarm rest)
+    rw (
+      way .tells number alarm mark bit at rest,
+      heard-wrong number at bit (way .stage (following at)) mark h,
+      run-silent mark number alarm rest,
+    )
 
 -- the number's own bits, from bit `at` to the last: the tag is selected and marked
 told-whole : (way : Telling) (number : ℕ) (alarm mark : Bool) (left at : ℕ) → at + left ≡ 63 →
@@ -151,9 +159,14 @@ told-whole : (way : Telling) (number : ℕ) (alarm mark : Bool) (left at : ℕ) 
     record { select = keeps true Selected; line = flatMap (λ bit. way .line bit bit) (bitsOf (suc left) (number / 2 ^ at)) }
 unfolding run flatMap
 told-whole way number alarm mark zero at h =
-    rw (last-bit number at, way .tells number alarm mark (bitOf number at) at [], heard-right-last number at (way .stage (following at)) mark (omega arith))
+    rw (
+      last-bit number at,
+      way .tells number alarm mark (bitOf number at) at [],
+      heard-right-last number at (way .stage (following at)) mark (omega arith),
+    )
 told-whole way number alarm mark (suc left) at h =
-    rw (bits-from (suc left) number at, told-right way number alarm mark at (flatMap (way .slots) (bitsOf (suc left) (number / 2 ^ (at + 1)))) (omega arith))
+    let rest = flatMap (way .slots) (bitsOf (suc left) (number / 2 ^ (at + 1))) in
+    rw (bits-from (suc left) number at, told-right way number alarm mark at rest (omega arith))
     (ap (follows (way .line (bitOf number at) (bitOf number at))) (told-whole way number alarm mark left (at + 1) (omega arith)))
 
 same-of-beq : (a b : Bool) → Bool·beq a b ≡ true → a ≡ b
@@ -173,7 +186,8 @@ told-other : (way : Telling) (number : ℕ) (alarm mark : Bool) (bits : List Boo
     run (keeps mark (way .stage at)) number alarm (flatMap (way .slots) bits) .select ≡ keeps mark Silent
 unfolding flatMap bitsOf
 told-other way number alarm mark [] at h other = absurd (other refl)
-told-other way number alarm mark (bit ∷ bits) at h other = by (Bool·beq (bitOf number at) bit) refl (told-other way number alarm mark bits (at + 1))
+told-other way number alarm mark (bit ∷ bits) at h other =
+    by (Bool·beq (bitOf number at) bit) refl (told-other way number alarm mark bits (at + 1))
   where
     rest : List Bool
     rest = flatMap (way .slots) bits
@@ -185,7 +199,9 @@ told-other way number alarm mark (bit ∷ bits) at h other = by (Bool·beq (bitO
     by :
         (right : Bool) →
         Bool·beq (bitOf number at) bit ≡ right →
-        (at + 1 + length bits ≤ 64 → (bits ≡ bitsOf (length bits) (number / 2 ^ (at + 1)) → ⊥) → run (keeps mark (way .stage (at + 1))) number alarm rest .select ≡ keeps mark Silent) →
+        (at + 1 + length bits ≤ 64 →
+        (bits ≡ bitsOf (length bits) (number / 2 ^ (at + 1)) → ⊥) →
+        run (keeps mark (way .stage (at + 1))) number alarm rest .select ≡ keeps mark Silent) →
         run (keeps mark (way .stage at)) number alarm (way .slots bit ++ rest) .select ≡ keeps mark Silent
     by true e onward =
         let same = same-of-beq (bitOf number at) bit e in
@@ -240,7 +256,8 @@ pub run-search : (select : Select) (number byte : ℕ) (alarm : Bool) → byte <
 unfolding searching
 run-search select number byte alarm h joined =
     after-command select number byte alarm (searchWith (bitsOf 64 number)) h ∙
-    rw (rom-joined byte (select .mark) alarm joined) (ap (follows (bitsOf 8 byte)) (rw div-one at (told-whole searching number alarm false 63 0 refl)))
+    rw (rom-joined byte (select .mark) alarm joined)
+    (ap (follows (bitsOf 8 byte)) (rw div-one at (told-whole searching number alarm false 63 0 refl)))
 
 -- a choice that differs silences it
 pub run-search-other : (select : Select) (number byte : ℕ) (alarm : Bool) (choices : List Bool) → byte < 256 →
@@ -250,7 +267,8 @@ pub run-search-other : (select : Select) (number byte : ℕ) (alarm : Bool) (cho
 unfolding searching
 run-search-other select number byte alarm choices h joined whole other =
     ap (λ (r : Ran). r .select) (after-command select number byte alarm (searchWith choices) h) ∙
-    rw (rom-joined byte (select .mark) alarm joined) (told-other searching number alarm false choices 0 (omega arith) (rw (whole, div-one) other))
+    rw (rom-joined byte (select .mark) alarm joined)
+    (told-other searching number alarm false choices 0 (omega arith) (rw (whole, div-one) other))
 
 -- without an alarm a Conditional Search is not joined
 pub run-unjoined : (select : Select) (number : ℕ) (bits : List Bool) →
@@ -276,7 +294,8 @@ run-resume select number alarm = run-command select number 0xA5 alarm (omega ari
 
 -- "Any other byte: silent until reset"
 pub run-unknown : (select : Select) (number byte : ℕ) (alarm : Bool) (bits : List Bool) → byte < 256 → known byte ≡ false →
-    run (resetSelect select) number alarm (bitsOf 8 byte ++ bits) ≡ record { select = keeps (select .mark) Silent; line = bitsOf 8 byte ++ bits }
+    run (resetSelect select) number alarm (bitsOf 8 byte ++ bits) ≡
+    record { select = keeps (select .mark) Silent; line = bitsOf 8 byte ++ bits }
 run-unknown select number byte alarm bits h other =
     after-command select number byte alarm bits h ∙
     rw (rom-unknown byte (select .mark) alarm other) (ap (follows (bitsOf 8 byte)) (run-silent (select .mark) number alarm bits))

@@ -7,12 +7,10 @@ use native.Mathlib.Omega.{arith}
 use borrow.Author.Tests.{ltb-true, ltb-false}
 use lib.Dec.{ltb, eqb}
 use lib.ListN.{length}
-use Rattle.bits.specs.Choose.{if_then_else_}
 use Rattle.bits.specs.Bits.{bitOf, bitsOf, shiftIn}
 use Rattle.bits.specs.Bits.Laws.{length-bits}
-use Rattle.select.specs.Select.{keeps, resetSelect, romCommand, commandBit, following, readBit, heardBit, slotAt, slotOf, isChosen}
-use Rattle.select.specs.Select.Laws.{following-more}
-use Rattle.select.specs.Select.Ranges.{either}
+use Rattle.select.specs.Select.{resetSelect, romCommand, commandBit, following, readBit, heardBit, slotAt, slotOf, isChosen}
+use Rattle.select.specs.Select.Laws.{either, following-more}
 use Rattle.select.specs.Runs.{run, chosenIn}
 use Rattle.select.specs.Runs.Laws.{run-command}
 use Rattle.select.specs.declared.Choosing.{Choosing}
@@ -30,50 +28,45 @@ Lasts (Complementing at) n = 3 * at + n ≤ 191
 Lasts (Awaiting at) n = 3 * at + n ≤ 190
 Lasts Selected n = n ≡ 0
 
--- a command byte leads to no more than it needs
-lasts-none : (byte : ℕ) (mark alarm : Bool) → Lasts (romCommand byte mark alarm .choosing) 0
+abbrev SelectLasts : ℕ → Select → Type 0
+SelectLasts n select = Lasts (select .choosing) n
+
+-- what a command byte leads to is in its ranges
+rom-lasts : (byte : ℕ) (mark alarm : Bool) → SelectLasts 0 (romCommand byte mark alarm)
 unfolding romCommand Lasts
-lasts-none byte mark alarm =
-    let P : Select → Type 0 = λ s. Lasts (s .choosing) 0 in
+rom-lasts byte mark alarm =
+    let P : Select → Type 0 = SelectLasts 0 in
     let Q : Choosing → Type 0 = λ k. Lasts k 0 in
-    either P (eqb byte 0x33) (omega arith)
-    (either P (eqb byte 0x55) (omega arith)
-    (either P (eqb byte 0xF0) (omega arith)
-    (either P (eqb byte 0xEC) (either Q alarm (omega arith) tt)
-    (either P (eqb byte 0xCC) refl
-    (either P (eqb byte 0xA5) (either Q mark refl tt) tt)))))
+    either P (eqb byte 0x33) (λ e. omega arith)
+    (λ e. either P (eqb byte 0x55) (λ e. omega arith)
+    (λ e. either P (eqb byte 0xF0) (λ e. omega arith)
+    (λ e. either P (eqb byte 0xEC) (λ e. either Q alarm (λ e. omega arith) (λ e. tt))
+    (λ e. either P (eqb byte 0xCC) (λ e. refl)
+    (λ e. either P (eqb byte 0xA5) (λ e. either Q mark (λ e. refl) (λ e. tt))
+    (λ e. tt))))))
 
-command-lasts : (heard count n : ℕ) (mark bit alarm : Bool) → count + suc n ≤ 8 →
-    Lasts (commandBit heard count mark bit alarm .choosing) n
+command-lasts : (heard count n : ℕ) (mark bit alarm : Bool) → count + suc n ≤ 8 → SelectLasts n (commandBit heard count mark bit alarm)
 unfolding commandBit Lasts
-command-lasts heard count n mark bit alarm h = by (ltb count 7) refl
-  where
-    by : (more : Bool) → ltb count 7 ≡ more →
-        Lasts ((if more then keeps mark (Command (shiftIn 8 heard bit) (count + 1)) else romCommand (shiftIn 8 heard bit) mark alarm) .choosing) n
-    by true e = omega (arith, ltb-true count 7 e)
-    by false e =
-        let none : n ≡ 0 = omega (arith, ltb-false count 7 e) in
-        rw none (lasts-none (shiftIn 8 heard bit) mark alarm)
+command-lasts heard count n mark bit alarm h =
+    either (SelectLasts n) (ltb count 7)
+    (λ e. omega (arith, ltb-true count 7 e))
+    (λ e. let none : n ≡ 0 = omega (arith, ltb-false count 7 e) in rw none (rom-lasts (shiftIn 8 heard bit) mark alarm))
 
-read-lasts : (at n : ℕ) (mark : Bool) → at + suc n ≤ 64 → Lasts (readBit at mark .choosing) n
-unfolding readBit following Lasts
-read-lasts at n mark h = by (ltb at 63) refl
-  where
-    by : (more : Bool) → ltb at 63 ≡ more → Lasts (if more then Reading (if more then at + 1 else at) else Selected) n
-    by true e = omega arith
-    by false e = omega (arith, ltb-false at 63 e)
+read-lasts : (at n : ℕ) (mark : Bool) → at + suc n ≤ 64 → SelectLasts n (readBit at mark)
+unfolding readBit Lasts
+read-lasts at n mark h =
+    either (λ (k : Choosing). Lasts k n) (ltb at 63)
+    (λ e. rw (following-more at (ltb-true at 63 e)) (omega arith))
+    (λ e. omega (arith, ltb-false at 63 e))
 
 -- `next` is what lasts where bits are left
 heard-lasts : (number at n : ℕ) (bit : Bool) (next : Choosing) (mark : Bool) → (at < 63 → Lasts next n) → (63 ≤ at → n ≡ 0) →
-    Lasts (heardBit number at bit next mark .choosing) n
+    SelectLasts n (heardBit number at bit next mark)
 unfolding heardBit Lasts
-heard-lasts number at n bit next mark more last = by (Bool·beq (bitOf number at) bit) (ltb at 63) refl
-  where
-    by : (right left : Bool) → ltb at 63 ≡ left →
-        Lasts ((if right then (if left then keeps mark next else keeps true Selected) else keeps mark Silent) .choosing) n
-    by true true e = more (ltb-true at 63 e)
-    by true false e = last (ltb-false at 63 e)
-    by false left e = tt
+heard-lasts number at n bit next mark more last =
+    either (SelectLasts n) (Bool·beq (bitOf number at) bit)
+    (λ e. either (SelectLasts n) (ltb at 63) (λ e. more (ltb-true at 63 e)) (λ e. last (ltb-false at 63 e)))
+    (λ e. tt)
 
 slot-lasts : (select : Select) (number n : ℕ) (bit alarm : Bool) → Lasts (select .choosing) (suc n) →
     Lasts (slotOf select number bit alarm .select .choosing) n
@@ -114,7 +107,8 @@ chosen-while select number alarm (bit ∷ bits) h =
 
 -- run after run
 pub chosen-append : (select : Select) (number : ℕ) (alarm : Bool) (bits more : List Bool) →
-    chosenIn select number alarm (bits ++ more) ≡ (chosenIn select number alarm bits && chosenIn (run select number alarm bits .select) number alarm more)
+    chosenIn select number alarm (bits ++ more) ≡
+    (chosenIn select number alarm bits && chosenIn (run select number alarm bits .select) number alarm more)
 unfolding chosenIn run
 chosen-append select number alarm [] more = refl
 chosen-append select number alarm (bit ∷ bits) more =
@@ -126,7 +120,8 @@ byte-lasts byte = omega (arith, length-bits 8 byte)
 
 -- from a reset to the end of the command byte, and on
 pub chosen-after-command : (select : Select) (number byte : ℕ) (alarm : Bool) (bits : List Bool) → byte < 256 →
-    chosenIn (resetSelect select) number alarm (bitsOf 8 byte ++ bits) ≡ chosenIn (romCommand byte (select .mark) alarm) number alarm bits
+    chosenIn (resetSelect select) number alarm (bitsOf 8 byte ++ bits) ≡
+    chosenIn (romCommand byte (select .mark) alarm) number alarm bits
 chosen-after-command select number byte alarm bits h =
     rw (
       chosen-append (resetSelect select) number alarm (bitsOf 8 byte) bits,

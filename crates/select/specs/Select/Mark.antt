@@ -1,5 +1,6 @@
 -- The ROM commands by what they share, and the rule of the Resume mark. Assumes nothing.
 use mathlib.Core.Path.{_≡_, refl}
+use mathlib.Core.List.{List, [], _∷_}
 use mathlib.Core.Bool.{Bool, true, false, _&&_, _||_, Bool·beq}
 use Prim.Native.Nat.{ℕ, _+_}
 use borrow.Author.Tests.{eqb-true}
@@ -15,13 +16,18 @@ use Rattle.select.specs.declared.Select.{Select}
 unfoldable pub joins : ℕ → Bool → Bool
 joins byte alarm = eqb byte 0xF0 || (eqb byte 0xEC && alarm)
 
+-- one of these bytes
+unfoldable pub among : List ℕ → ℕ → Bool
+among [] byte = false
+among (this ∷ these) byte = eqb byte this || among these byte
+
 -- "Read, Match, both Searches and Skip clear the Resume mark"
 unfoldable pub clearing : ℕ → Bool
-clearing byte = eqb byte 0x33 || eqb byte 0x55 || eqb byte 0xF0 || eqb byte 0xEC || eqb byte 0xCC
+clearing byte = among (0x33 ∷ 0x55 ∷ 0xF0 ∷ 0xEC ∷ 0xCC ∷ []) byte
 
--- these and Resume are the commands there are
+-- with Resume these are all the commands
 unfoldable pub known : ℕ → Bool
-known byte = clearing byte || eqb byte 0xA5
+known byte = among (0x33 ∷ 0x55 ∷ 0xF0 ∷ 0xEC ∷ 0xCC ∷ 0xA5 ∷ []) byte
 
 -- "a whole Match or either whole Search": this slot is its last bit, and it is right
 unfoldable pub endsWhole : Choosing → ℕ → Bool → Bool
@@ -48,27 +54,30 @@ rom-joined byte mark alarm = by (eqb byte 0xF0) (eqb byte 0xEC) alarm refl refl
     by false true false e f h = cc
     by false false alarm e f h = cc
 
--- a command that is known, and one that is not
+-- one command more that clears the mark
+clears-too : (P : Select → Bool → Bool → Type 0) (test : Bool) {a b : Select} {c k : Bool} → P a true true → P b c k →
+    P (if test then a else b) (test || c) (test || k)
+clears-too P true p q = p
+clears-too P false p q = q
+
+-- a command that clears the mark, Resume, and one that is not known
 rom-cases : (P : Select → Bool → Bool → Type 0) (byte : ℕ) (mark alarm : Bool) →
-    ((k : Choosing) → P (clears k) true true) → ((k : Choosing) → P (keeps mark k) false true) → P (keeps mark Silent) false false →
+    ((k : Choosing) → P (clears k) true true) →
+    ((k : Choosing) → P (keeps mark k) false true) →
+    P (keeps mark Silent) false false →
     P (romCommand byte mark alarm) (clearing byte) (known byte)
-unfolding romCommand clearing known
+unfolding romCommand clearing known among
 rom-cases P byte mark alarm cleared resumed unknown =
-    by (eqb byte 0x33) (eqb byte 0x55) (eqb byte 0xF0) (eqb byte 0xEC) (eqb byte 0xCC) (eqb byte 0xA5)
+    clears-too P (eqb byte 0x33) (cleared _)
+    (clears-too P (eqb byte 0x55) (cleared _)
+    (clears-too P (eqb byte 0xF0) (cleared _)
+    (clears-too P (eqb byte 0xEC) (cleared _)
+    (clears-too P (eqb byte 0xCC) (cleared _)
+    (rest (eqb byte 0xA5))))))
   where
-    by :
-        (read match search conditional skip resume : Bool) →
-        P
-        (if read then clears (Reading 0) else if match then clears (Matching 0) else if search then clears (Giving 0) else if conditional then clears (if alarm then Giving 0 else Silent) else if skip then clears Selected else if resume then keeps mark (if mark then Selected else Silent) else keeps mark Silent)
-        (read || match || search || conditional || skip)
-        (read || match || search || conditional || skip || resume)
-    by true b c d e f = cleared _
-    by false true c d e f = cleared _
-    by false false true d e f = cleared _
-    by false false false true e f = cleared _
-    by false false false false true f = cleared _
-    by false false false false false true = resumed _
-    by false false false false false false = unknown
+    rest : (resume : Bool) → P (if resume then keeps mark (if mark then Selected else Silent) else keeps mark Silent) false (resume || false)
+    rest true = resumed _
+    rest false = unknown
 
 rom-mark : (byte : ℕ) (mark alarm : Bool) → romCommand byte mark alarm .mark ≡ (if clearing byte then false else mark)
 rom-mark byte mark alarm =
@@ -80,15 +89,20 @@ rom-unknown byte mark alarm =
 
 -- ---- the mark after a slot
 
+-- the mark that a slot leaves, by whether it ends a command that clears it
 command-mark : (heard count : ℕ) (mark bit alarm : Bool) →
     commandBit heard count mark bit alarm .mark ≡ (if endsCommand clearing (Command heard count) bit then false else mark)
 unfolding commandBit endsCommand
 command-mark heard count mark bit alarm = by (ltb count 7)
   where
+    byte : ℕ
+    byte = shiftIn 8 heard bit
+
     by : (more : Bool) →
-        (if more then keeps mark (Command (shiftIn 8 heard bit) (count + 1)) else romCommand (shiftIn 8 heard bit) mark alarm) .mark ≡ (if (if more then false else clearing (shiftIn 8 heard bit)) then false else mark)
+        (if more then keeps mark (Command byte (count + 1)) else romCommand byte mark alarm) .mark ≡
+        (if (if more then false else clearing byte) then false else mark)
     by true = refl
-    by false = rom-mark _ mark alarm
+    by false = rom-mark byte mark alarm
 
 heard-mark : (number at : ℕ) (bit : Bool) (next : Choosing) (mark : Bool) →
     heardBit number at bit next mark .mark ≡ (if (if ltb at 63 then false else Bool·beq (bitOf number at) bit) then true else mark)
@@ -96,7 +110,8 @@ unfolding heardBit
 heard-mark number at bit next mark = by (ltb at 63) (Bool·beq (bitOf number at) bit)
   where
     by : (more right : Bool) →
-        (if right then (if more then keeps mark next else keeps true Selected) else keeps mark Silent) .mark ≡ (if (if more then false else right) then true else mark)
+        (if right then (if more then keeps mark next else keeps true Selected) else keeps mark Silent) .mark ≡
+        (if (if more then false else right) then true else mark)
     by true true = refl
     by true false = refl
     by false true = refl
