@@ -22,10 +22,10 @@ run select number alarm (bit ∷ bits) =
     record { select = rest .select; line = slot .line ∷ rest .line }
 
 -- in each of these slots the tag is still being chosen: none is a memory command's
-unfoldable pub chosenIn : Select → ℕ → Bool → List Bool → Bool
-chosenIn select number alarm [] = true
-chosenIn select number alarm (bit ∷ bits) =
-    not (isSelected select) && chosenIn (slotOf select number bit alarm .select) number alarm bits
+unfoldable pub stillChoosing : Select → ℕ → Bool → List Bool → Bool
+stillChoosing select number alarm [] = true
+stillChoosing select number alarm (bit ∷ bits) =
+    not (isSelected select) && stillChoosing (slotOf select number bit alarm .select) number alarm bits
 
 -- n slots with the line released
 abbrev pub released : ℕ → List Bool

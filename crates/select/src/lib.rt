@@ -141,6 +141,7 @@ fn send(own: bool, bit: bool, select: Select) -> Chosen
     }
 }
 
+// How choosing goes on, with the Resume mark as given.
 fn keep(mark: bool, choosing: Choosing) -> Select
     ensures { λ r. ⌜ r ≡ keeps mark choosing ⌝ }
 {

@@ -29,14 +29,8 @@ others-never these (Complementing at) bit h = refl
 others-never these (Awaiting at) bit h = refl
 others-never these Selected bit h = refl
 
-enum-known-choosing : tie.Need-enum-known-choosing
-enum-known-choosing c = search needs
-
 returns : tie.Need-returns
 returns c = sym (others-never _ _ _ (c .match .keys2))
-
-shift-in8-requires : tie.Need-shift-in8-requires
-shift-in8-requires c κs = search needs
 
 returns-2 : tie.Need-returns-2
 unfolding endsCommand
@@ -49,4 +43,10 @@ returns-3 c =
 
 pub asks-alarm-spec : {M : Type 1} → statement M
 asks-alarm-spec =
-    tie.close (tie.spec enum-known-choosing returns shift-in8-requires returns-2 returns-3)
+    tie.close
+    (tie.spec
+    (λ c. search needs)
+    returns
+    (λ c κs. search needs)
+    returns-2
+    returns-3)

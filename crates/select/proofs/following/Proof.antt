@@ -5,9 +5,6 @@ use Rattle.select.specs.Select.{following}
 use Rattle.select.proofs.following.Statement.{statement}
 use Rattle.select.proofs.following.Tie as tie
 
-add-result : tie.Need-add-result
-add-result c = search needs
-
 returns : tie.Need-returns
 unfolding following
 returns c = rw (lt-ltb _ _ (c .if1 .taken))
@@ -17,4 +14,9 @@ unfolding following
 returns-2 c = rw (le-ltb _ _ (c .if1 .left))
 
 pub following-spec : {M : Type 1} → statement M
-following-spec = tie.close (tie.spec add-result returns returns-2)
+following-spec =
+    tie.close
+    (tie.spec
+    (λ c. search needs)
+    returns
+    returns-2)

@@ -5,18 +5,6 @@ use Rattle.select.specs.Select.{heardBit}
 use Rattle.select.proofs.hear_bit.Statement.{statement}
 use Rattle.select.proofs.hear_bit.Tie as tie
 
-bit-requires : tie.Need-bit-requires
-bit-requires c κs = search needs
-
-keep-requires : tie.Need-keep-requires
-keep-requires c κs = search needs
-
-keep-requires-2 : tie.Need-keep-requires-2
-keep-requires-2 c κs = search needs
-
-keep-requires-3 : tie.Need-keep-requires-3
-keep-requires-3 c κs = search needs
-
 returns : tie.Need-returns
 unfolding heardBit
 returns c =
@@ -45,10 +33,10 @@ pub hear-bit-spec : {M : Type 1} → statement M
 hear-bit-spec =
     tie.close
     (tie.spec
-    bit-requires
-    keep-requires
-    keep-requires-2
-    keep-requires-3
+    (λ c κs. search needs)
+    (λ c κs. search needs)
+    (λ c κs. search needs)
+    (λ c κs. search needs)
     returns
     returns-2
     returns-3)

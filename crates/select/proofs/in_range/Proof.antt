@@ -4,30 +4,6 @@ use Rattle.select.specs.Select.{choosingInRange}
 use Rattle.select.proofs.in_range.Statement.{statement}
 use Rattle.select.proofs.in_range.Tie as tie
 
-enum-told : tie.Need-enum-told
-enum-told c = search needs
-
-enum-known-choosing : tie.Need-enum-known-choosing
-enum-known-choosing c = search needs
-
-enum-known-choosing-2 : tie.Need-enum-known-choosing-2
-enum-known-choosing-2 c = search needs
-
-enum-known-choosing-3 : tie.Need-enum-known-choosing-3
-enum-known-choosing-3 c = search needs
-
-enum-known-choosing-4 : tie.Need-enum-known-choosing-4
-enum-known-choosing-4 c = search needs
-
-enum-known-choosing-5 : tie.Need-enum-known-choosing-5
-enum-known-choosing-5 c = search needs
-
-enum-known-choosing-6 : tie.Need-enum-known-choosing-6
-enum-known-choosing-6 c = search needs
-
-enum-told-2 : tie.Need-enum-told-2
-enum-told-2 c = search needs
-
 returns : tie.Need-returns
 unfolding choosingInRange
 returns c = rw (c .enum-told .given .1)
@@ -64,14 +40,14 @@ pub in-range-spec : {M : Type 1} → statement M
 in-range-spec =
     tie.close
     (tie.spec
-    enum-told
-    enum-known-choosing
-    enum-known-choosing-2
-    enum-known-choosing-3
-    enum-known-choosing-4
-    enum-known-choosing-5
-    enum-known-choosing-6
-    enum-told-2
+    (λ c. search needs)
+    (λ c. search needs)
+    (λ c. search needs)
+    (λ c. search needs)
+    (λ c. search needs)
+    (λ c. search needs)
+    (λ c. search needs)
+    (λ c. search needs)
     returns
     returns-2
     returns-3

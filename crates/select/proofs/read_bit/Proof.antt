@@ -5,15 +5,6 @@ use Rattle.select.specs.Select.{readBit}
 use Rattle.select.proofs.read_bit.Statement.{statement}
 use Rattle.select.proofs.read_bit.Tie as tie
 
-following-requires : tie.Need-following-requires
-following-requires c κs = search needs
-
-keep-requires : tie.Need-keep-requires
-keep-requires c κs = search needs
-
-keep-requires-2 : tie.Need-keep-requires-2
-keep-requires-2 c κs = search needs
-
 returns : tie.Need-returns
 unfolding readBit
 returns c = simp (c .keep .ensures, c .before .following .ensures, lt-ltb _ _ (c .before .before .if1 .taken))
@@ -24,4 +15,10 @@ returns-2 c = simp (c .keep2 .ensures, le-ltb _ _ (c .before .if1 .left))
 
 pub read-bit-spec : {M : Type 1} → statement M
 read-bit-spec =
-    tie.close (tie.spec following-requires keep-requires keep-requires-2 returns returns-2)
+    tie.close
+    (tie.spec
+    (λ c κs. search needs)
+    (λ c κs. search needs)
+    (λ c κs. search needs)
+    returns
+    returns-2)

@@ -5,33 +5,6 @@ use Rattle.select.specs.Select.{romCommand}
 use Rattle.select.proofs.rom_command.Statement.{statement}
 use Rattle.select.proofs.rom_command.Tie as tie
 
-keep-requires : tie.Need-keep-requires
-keep-requires c κs = search needs
-
-keep-requires-2 : tie.Need-keep-requires-2
-keep-requires-2 c κs = search needs
-
-keep-requires-3 : tie.Need-keep-requires-3
-keep-requires-3 c κs = search needs
-
-keep-requires-4 : tie.Need-keep-requires-4
-keep-requires-4 c κs = search needs
-
-keep-requires-5 : tie.Need-keep-requires-5
-keep-requires-5 c κs = search needs
-
-keep-requires-6 : tie.Need-keep-requires-6
-keep-requires-6 c κs = search needs
-
-keep-requires-7 : tie.Need-keep-requires-7
-keep-requires-7 c κs = search needs
-
-keep-requires-8 : tie.Need-keep-requires-8
-keep-requires-8 c κs = search needs
-
-keep-requires-9 : tie.Need-keep-requires-9
-keep-requires-9 c κs = search needs
-
 returns : tie.Need-returns
 unfolding romCommand
 returns c = simp (c .keep .ensures, c .before .match .keys1)
@@ -82,15 +55,15 @@ pub rom-command-spec : {M : Type 1} → statement M
 rom-command-spec =
     tie.close
     (tie.spec
-    keep-requires
-    keep-requires-2
-    keep-requires-3
-    keep-requires-4
-    keep-requires-5
-    keep-requires-6
-    keep-requires-7
-    keep-requires-8
-    keep-requires-9
+    (λ c κs. search needs)
+    (λ c κs. search needs)
+    (λ c κs. search needs)
+    (λ c κs. search needs)
+    (λ c κs. search needs)
+    (λ c κs. search needs)
+    (λ c κs. search needs)
+    (λ c κs. search needs)
+    (λ c κs. search needs)
     returns
     returns-2
     returns-3

@@ -28,9 +28,6 @@ others-never (Complementing at) h = refl
 others-never (Awaiting at) h = refl
 others-never Selected h = absurd (miss others 7 tt h)
 
-enum-told : tie.Need-enum-told
-enum-told c = search needs
-
 returns : tie.Need-returns
 returns c = sym (others-never _ (c .match .keys2))
 
@@ -39,4 +36,9 @@ unfolding isChosen
 returns-2 c = rw (c .enum-told .given .1)
 
 pub selected-spec : {M : Type 1} → statement M
-selected-spec = tie.close (tie.spec enum-told returns returns-2)
+selected-spec =
+    tie.close
+    (tie.spec
+    (λ c. search needs)
+    returns
+    returns-2)

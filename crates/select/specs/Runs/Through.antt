@@ -11,7 +11,7 @@ use Rattle.bits.specs.Bits.{bitOf, bitsOf, shiftIn}
 use Rattle.bits.specs.Bits.Laws.{length-bits}
 use Rattle.select.specs.Select.{resetSelect, romCommand, commandBit, following, readBit, heardBit, slotAt, slotOf, isChosen}
 use Rattle.select.specs.Select.Laws.{either, following-more}
-use Rattle.select.specs.Runs.{run, chosenIn}
+use Rattle.select.specs.Runs.{run, stillChoosing}
 use Rattle.select.specs.Runs.Laws.{run-command}
 use Rattle.select.specs.declared.Choosing.{Choosing}
 use Rattle.select.specs.declared.Choosing.the-variants.{Silent, Command, Reading, Matching, Giving, Complementing, Awaiting, Selected}
@@ -97,41 +97,41 @@ unchosen (Awaiting at) n h = refl
 unchosen Selected n h = absurd (omega arith)
 
 -- choosing is not over while it lasts
-pub chosen-while : (select : Select) (number : ℕ) (alarm : Bool) (bits : List Bool) → Lasts (select .choosing) (length bits) →
-    chosenIn select number alarm bits ≡ true
-unfolding chosenIn
-chosen-while select number alarm [] h = refl
-chosen-while select number alarm (bit ∷ bits) h =
+pub choosing-while : (select : Select) (number : ℕ) (alarm : Bool) (bits : List Bool) → Lasts (select .choosing) (length bits) →
+    stillChoosing select number alarm bits ≡ true
+unfolding stillChoosing
+choosing-while select number alarm [] h = refl
+choosing-while select number alarm (bit ∷ bits) h =
     rw (unchosen (select .choosing) (length bits) h)
-    (chosen-while (slotOf select number bit alarm .select) number alarm bits (slot-lasts select number (length bits) bit alarm h))
+    (choosing-while (slotOf select number bit alarm .select) number alarm bits (slot-lasts select number (length bits) bit alarm h))
 
 -- run after run
-pub chosen-append : (select : Select) (number : ℕ) (alarm : Bool) (bits more : List Bool) →
-    chosenIn select number alarm (bits ++ more) ≡
-    (chosenIn select number alarm bits && chosenIn (run select number alarm bits .select) number alarm more)
-unfolding chosenIn run
-chosen-append select number alarm [] more = refl
-chosen-append select number alarm (bit ∷ bits) more =
-    rw (chosen-append (slotOf select number bit alarm .select) number alarm bits more, and-assoc)
+pub choosing-append : (select : Select) (number : ℕ) (alarm : Bool) (bits more : List Bool) →
+    stillChoosing select number alarm (bits ++ more) ≡
+    (stillChoosing select number alarm bits && stillChoosing (run select number alarm bits .select) number alarm more)
+unfolding stillChoosing run
+choosing-append select number alarm [] more = refl
+choosing-append select number alarm (bit ∷ bits) more =
+    rw (choosing-append (slotOf select number bit alarm .select) number alarm bits more, and-assoc)
 
 byte-lasts : (byte : ℕ) → Lasts (Command 0 0) (length (bitsOf 8 byte))
 unfolding Lasts
 byte-lasts byte = omega (arith, length-bits 8 byte)
 
 -- from a reset to the end of the command byte, and on
-pub chosen-after-command : (select : Select) (number byte : ℕ) (alarm : Bool) (bits : List Bool) → byte < 256 →
-    chosenIn (resetSelect select) number alarm (bitsOf 8 byte ++ bits) ≡
-    chosenIn (romCommand byte (select .mark) alarm) number alarm bits
-chosen-after-command select number byte alarm bits h =
+pub choosing-after-command : (select : Select) (number byte : ℕ) (alarm : Bool) (bits : List Bool) → byte < 256 →
+    stillChoosing (resetSelect select) number alarm (bitsOf 8 byte ++ bits) ≡
+    stillChoosing (romCommand byte (select .mark) alarm) number alarm bits
+choosing-after-command select number byte alarm bits h =
     rw (
-      chosen-append (resetSelect select) number alarm (bitsOf 8 byte) bits,
-      chosen-while (resetSelect select) number alarm (bitsOf 8 byte) (byte-lasts byte),
+      choosing-append (resetSelect select) number alarm (bitsOf 8 byte) bits,
+      choosing-while (resetSelect select) number alarm (bitsOf 8 byte) (byte-lasts byte),
       run-command select number byte alarm h,
     )
 
 -- a whole command, over as many slots as it lasts
-pub chosen-through : (select : Select) (number byte : ℕ) (alarm : Bool) (bits : List Bool) → byte < 256 →
+pub choosing-through : (select : Select) (number byte : ℕ) (alarm : Bool) (bits : List Bool) → byte < 256 →
     Lasts (romCommand byte (select .mark) alarm .choosing) (length bits) →
-    chosenIn (resetSelect select) number alarm (bitsOf 8 byte ++ bits) ≡ true
-chosen-through select number byte alarm bits h lasts =
-    chosen-after-command select number byte alarm bits h ∙ chosen-while (romCommand byte (select .mark) alarm) number alarm bits lasts
+    stillChoosing (resetSelect select) number alarm (bitsOf 8 byte ++ bits) ≡ true
+choosing-through select number byte alarm bits h lasts =
+    choosing-after-command select number byte alarm bits h ∙ choosing-while (romCommand byte (select .mark) alarm) number alarm bits lasts
