@@ -1,0 +1,100 @@
+-- What one slot does, in the words that runs of slots are proved by; where the alarm counts. Assumes nothing.
+use mathlib.Core.Path.{_≡_, refl, ap}
+use mathlib.Core.Bool.{Bool, true, false, Bool·beq}
+use Prim.Native.Nat.{ℕ, _+_, _<_, _≤_}
+use borrow.Author.Tests.{lt-ltb, le-ltb}
+use lib.Dec.{ltb, eqb}
+use Rattle.bits.specs.Choose.{if_then_else_}
+use Rattle.bits.specs.Bits.{bitOf, shiftIn}
+use Rattle.select.specs.Select.{keeps, romCommand, commandBit, following, readBit, heardBit, listens, slotAt, slotOf, endsCommand, asksAlarm}
+use Rattle.select.specs.declared.Choosing.{Choosing}
+use Rattle.select.specs.declared.Choosing.the-variants.{Silent, Command, Reading, Matching, Giving, Complementing, Awaiting, Selected}
+use Rattle.select.specs.declared.Select.{Select}
+
+-- what holds of both, each where it is chosen, holds of the choice between them
+pub either : {A : Type 0} (P : A → Type 0) (test : Bool) {a b : A} → (test ≡ true → P a) → (test ≡ false → P b) →
+    P (if test then a else b)
+either P true p q = p refl
+either P false p q = q refl
+
+-- ---- one slot, where it is not the last of its kind and where it is
+
+pub command-more : (heard count : ℕ) (mark bit alarm : Bool) → count < 7 →
+    commandBit heard count mark bit alarm ≡ keeps mark (Command (shiftIn 8 heard bit) (count + 1))
+unfolding commandBit
+command-more heard count mark bit alarm h = rw (lt-ltb _ _ h)
+
+pub command-last : (heard count : ℕ) (mark bit alarm : Bool) → 7 ≤ count →
+    commandBit heard count mark bit alarm ≡ romCommand (shiftIn 8 heard bit) mark alarm
+unfolding commandBit
+command-last heard count mark bit alarm h = rw (le-ltb _ _ h)
+
+pub following-more : (at : ℕ) → at < 63 → following at ≡ at + 1
+unfolding following
+following-more at h = rw (lt-ltb _ _ h)
+
+pub read-more : (at : ℕ) (mark : Bool) → at < 63 → readBit at mark ≡ keeps mark (Reading (at + 1))
+unfolding readBit
+read-more at mark h = simp (lt-ltb _ _ h, following-more at h)
+
+pub read-last : (at : ℕ) (mark : Bool) → 63 ≤ at → readBit at mark ≡ keeps mark Selected
+unfolding readBit
+read-last at mark h = rw (le-ltb _ _ h)
+
+pub same-bit : (b : Bool) → Bool·beq b b ≡ true
+same-bit true = refl
+same-bit false = refl
+
+pub heard-right-more : (number at : ℕ) (next : Choosing) (mark : Bool) → at < 63 →
+    heardBit number at (bitOf number at) next mark ≡ keeps mark next
+unfolding heardBit
+heard-right-more number at next mark h = simp (same-bit, lt-ltb _ _ h)
+
+pub heard-right-last : (number at : ℕ) (next : Choosing) (mark : Bool) → 63 ≤ at →
+    heardBit number at (bitOf number at) next mark ≡ keeps true Selected
+unfolding heardBit
+heard-right-last number at next mark h = simp (same-bit, le-ltb _ _ h)
+
+pub heard-wrong : (number at : ℕ) (bit : Bool) (next : Choosing) (mark : Bool) → Bool·beq (bitOf number at) bit ≡ false →
+    heardBit number at bit next mark ≡ keeps mark Silent
+unfolding heardBit
+heard-wrong number at bit next mark h = rw h
+
+-- ---- the alarm counts only where it is asked for
+
+rom-alarm : (byte : ℕ) (mark a b : Bool) → eqb byte 0xEC ≡ false → romCommand byte mark a ≡ romCommand byte mark b
+unfolding romCommand
+rom-alarm byte mark a b h = rw h
+
+command-alarm : (heard count : ℕ) (mark bit a b : Bool) (more : Bool) → ltb count 7 ≡ more →
+    asksAlarm (keeps mark (Command heard count)) bit ≡ false →
+    commandBit heard count mark bit a ≡ commandBit heard count mark bit b
+unfolding commandBit endsCommand
+command-alarm heard count mark bit a b true more h = simp more
+command-alarm heard count mark bit a b false more h = simp more (rom-alarm _ mark a b (simp more at h))
+
+-- a slot that is not the last bit of a Conditional Search command
+pub alarm-unasked : (select : Select) (number : ℕ) (bit a b : Bool) → asksAlarm select bit ≡ false →
+    slotOf select number bit a ≡ slotOf select number bit b
+unfolding slotOf slotAt
+alarm-unasked select number bit a b h = at (select .choosing) h
+  where
+    at : (k : Choosing) → asksAlarm (keeps (select .mark) k) bit ≡ false →
+        slotAt k (select .mark) number bit a ≡ slotAt k (select .mark) number bit b
+    at Silent h = refl
+    at (Command heard count) h = ap (listens bit) (command-alarm heard count (select .mark) bit a b (ltb count 7) refl h)
+    at (Reading n) h = refl
+    at (Matching n) h = refl
+    at (Giving n) h = refl
+    at (Complementing n) h = refl
+    at (Awaiting n) h = refl
+    at Selected h = refl
+
+-- two tags that stand alike stay alike, given the same alarm where it is asked for
+pub slots-agree : (select : Select) (number : ℕ) (bit a b : Bool) → (asksAlarm select bit ≡ true → a ≡ b) →
+    slotOf select number bit a ≡ slotOf select number bit b
+slots-agree select number bit a b same = by (asksAlarm select bit) refl
+  where
+    by : (asked : Bool) → asksAlarm select bit ≡ asked → slotOf select number bit a ≡ slotOf select number bit b
+    by true asked = ap (slotOf select number bit) (same asked)
+    by false asked = alarm-unasked select number bit a b asked
