@@ -1,9 +1,9 @@
 -- What bits taken low first add up to, once for every width. Assumes nothing.
 use mathlib.Core.Path.{_≡_, refl, sym, ap, _∙_}
 use mathlib.Core.Bool.{false}
-use mathlib.Core.List.{_++_}
+use mathlib.Core.List.{_∷_, _++_}
 use Prim.Native.Nat.{ℕ, zero, suc, _+_, _-_, _*_, _/_, _%_, _^_, _≤_, _<_}
-use native.Mathlib.Nat.{pow-succ', div-one, div-div-eq-div-mul, mod-one, mod-eq-of-lt, div-eq-of-lt, add-mul-div-right, mul-assoc, add-suc, suc-add, add-zero, zero-add, le-of-suc-le-suc, not-suc-le-zero, lt-of-lt-of-le, zero-mul, mul-one, add-mul, mul-left-comm, add-assoc}
+use native.Mathlib.Nat.{pow-succ', div-one, div-div-eq-div-mul, mul-comm, mod-one, mod-eq-of-lt, div-eq-of-lt, add-mul-div-right, mul-assoc, add-suc, suc-add, add-zero, zero-add, le-of-suc-le-suc, not-suc-le-zero, lt-of-lt-of-le, zero-mul, mul-one, add-mul, mul-left-comm, add-assoc}
 use native.Mathlib.Omega.{arith}
 use native.Mathlib.Numerals.{add-one}
 use lib.Dec.{eqb}
@@ -73,6 +73,11 @@ bits-mod zero n = refl
 bits-mod (suc a) n =
     let low : bitOf (n % 2 ^ suc a) 0 ≡ bitOf n 0 = rw (bit-low (n % 2 ^ suc a), bit-low n, rw add-one at (mod-mod-pow n a 1)) in
     rw (low, rw add-one at (field n a 1), bits-mod a (n / 2))
+
+-- the bits of a number from bit `at` on: that bit, and those from the next on
+pub bits-from : (k number at : ℕ) → bitsOf (suc k) (number / 2 ^ at) ≡ bitOf number at ∷ bitsOf k (number / 2 ^ (at + 1))
+unfolding bitsOf bitOf
+bits-from k number at = simp (div-one, div-div-eq-div-mul, add-one, pow-succ', mul-comm)
 
 spread : (d a p : ℕ) → d * p + a * (2 * p) ≡ (d + 2 * a) * p
 spread d a p = simp (add-mul, mul-assoc, mul-left-comm)

@@ -3,13 +3,12 @@ use mathlib.Core.Path.{_≡_, refl, sym, ap, _∙_}
 use mathlib.Core.Bool.{Bool, true, false, not, Bool·beq, and-true}
 use mathlib.Core.List.{List, [], _∷_, _++_, flatMap}
 use Prim.Native.Nat.{ℕ, zero, suc, _+_, _/_, _%_, _^_, _<_, _≤_}
-use native.Mathlib.Nat.{div-one, div-div-eq-div-mul, pow-succ', mul-comm, mod-eq-of-lt}
-use native.Mathlib.Numerals.{add-one}
+use native.Mathlib.Nat.{div-one, mod-eq-of-lt}
 use native.Mathlib.Omega.{arith}
 use lib.ListN.{length}
 use Rattle.bits.specs.Choose.{if_then_else_}
 use Rattle.bits.specs.Bits.{bitOf, bitsOf, numberOf, shiftIn, shiftAll}
-use Rattle.bits.specs.Bits.Laws.{length-bits, number-bits, heard-whole}
+use Rattle.bits.specs.Bits.Laws.{length-bits, number-bits, heard-whole, bits-from}
 use Rattle.select.specs.Select.{keeps, clears, resetSelect, romCommand, following, heardBit, slotAt, slotOf}
 use Rattle.select.specs.Select.Laws.{command-more, command-last, following-more, read-more, read-last, heard-right-more, heard-right-last, heard-wrong}
 use Rattle.select.specs.Select.Mark.{known, joins, rom-unknown, rom-joined}
@@ -39,11 +38,6 @@ pub run-silent : (mark : Bool) (number : ℕ) (alarm : Bool) (bits : List Bool) 
 unfolding run slotOf slotAt
 run-silent mark number alarm [] = refl
 run-silent mark number alarm (bit ∷ bits) = ap (follows (bit ∷ [])) (run-silent mark number alarm bits)
-
--- the bits of a number from bit `at` on: that bit, and those from the next on
-bits-from : (k number at : ℕ) → bitsOf (suc k) (number / 2 ^ at) ≡ bitOf number at ∷ bitsOf k (number / 2 ^ (at + 1))
-unfolding bitsOf bitOf
-bits-from k number at = simp (div-one, div-div-eq-div-mul, add-one, pow-succ', mul-comm)
 
 last-bit : (number at : ℕ) → bitsOf 1 (number / 2 ^ at) ≡ bitOf number at ∷ []
 unfolding bitsOf

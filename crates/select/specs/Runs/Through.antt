@@ -7,10 +7,11 @@ use native.Mathlib.Omega.{arith}
 use borrow.Author.Tests.{ltb-true, ltb-false}
 use lib.Dec.{ltb, eqb}
 use lib.ListN.{length}
+use Rattle.bits.specs.Choose.{either}
 use Rattle.bits.specs.Bits.{bitOf, bitsOf, shiftIn}
 use Rattle.bits.specs.Bits.Laws.{length-bits}
 use Rattle.select.specs.Select.{resetSelect, romCommand, commandBit, following, readBit, heardBit, slotAt, slotOf, isChosen}
-use Rattle.select.specs.Select.Laws.{either, following-more}
+use Rattle.select.specs.Select.Laws.{following-more}
 use Rattle.select.specs.Runs.{run, stillChoosing}
 use Rattle.select.specs.Runs.Laws.{run-command}
 use Rattle.select.specs.declared.Choosing.{Choosing}

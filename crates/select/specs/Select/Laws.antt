@@ -4,18 +4,11 @@ use mathlib.Core.Bool.{Bool, true, false, Bool·beq}
 use Prim.Native.Nat.{ℕ, _+_, _<_, _≤_}
 use borrow.Author.Tests.{lt-ltb, le-ltb}
 use lib.Dec.{ltb, eqb}
-use Rattle.bits.specs.Choose.{if_then_else_}
 use Rattle.bits.specs.Bits.{bitOf, shiftIn}
 use Rattle.select.specs.Select.{keeps, romCommand, commandBit, following, readBit, heardBit, listens, slotAt, slotOf, endsCommand, asksAlarm}
 use Rattle.select.specs.declared.Choosing.{Choosing}
 use Rattle.select.specs.declared.Choosing.the-variants.{Silent, Command, Reading, Matching, Giving, Complementing, Awaiting, Selected}
 use Rattle.select.specs.declared.Select.{Select}
-
--- what holds of both, each where it is chosen, holds of the choice between them
-pub either : {A : Type 0} (P : A → Type 0) (test : Bool) {a b : A} → (test ≡ true → P a) → (test ≡ false → P b) →
-    P (if test then a else b)
-either P true p q = p refl
-either P false p q = q refl
 
 -- ---- one slot, where it is not the last of its kind and where it is
 

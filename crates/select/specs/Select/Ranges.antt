@@ -5,9 +5,9 @@ use Prim.Native.Nat.{ℕ, _+_, _<_}
 use native.Mathlib.Omega.{arith}
 use borrow.Author.Tests.{lt-ltb, ltb-true}
 use lib.Dec.{ltb, eqb}
+use Rattle.bits.specs.Choose.{either}
 use Rattle.bits.specs.Bits.{bitOf, shiftIn}
 use Rattle.select.specs.Select.{newSelect, resetSelect, romCommand, commandBit, following, readBit, heardBit, slotAt, slotOf, choosingInRange, selectInRange}
-use Rattle.select.specs.Select.Laws.{either}
 use Rattle.select.specs.declared.Choosing.{Choosing}
 use Rattle.select.specs.declared.Choosing.the-variants.{Silent, Command, Reading, Matching, Giving, Complementing, Awaiting, Selected}
 use Rattle.select.specs.declared.Select.{Select}
