@@ -14,13 +14,13 @@ alarmed image = bor image || thf image || tlf image
 unfoldable pub checked : List ℕ → Bool
 checked image = eqb (control image) 0xAA
 
--- Read Memory: "eight password bytes, read or full"
-unfoldable pub mayRead : List ℕ → ℕ → Bool
-mayRead image field = not (checked image) || (eqb field (readPassword image) || eqb field (fullPassword image))
-
 -- Clear, Start, Stop: "eight full-password bytes"
 unfoldable pub mayControl : List ℕ → ℕ → Bool
-mayControl image field = not (checked image) || eqb field (fullPassword image)
+mayControl image field = if checked image then eqb field (fullPassword image) else true
+
+-- Read Memory: "eight password bytes, read or full"
+unfoldable pub mayRead : List ℕ → ℕ → Bool
+mayRead image field = mayControl image field || eqb field (readPassword image)
 
 -- Copy: "address below 0200h, or below 0280h with no mission, and full password right"
 unfoldable pub mayCopy : List ℕ → ℕ → ℕ → Bool

@@ -2,11 +2,13 @@
 -- (document 01, "Memory"). A register's place in the image is its address. Assumes nothing.
 use mathlib.Core.Bool.{Bool, _||_}
 use mathlib.Core.List.{List}
-use Prim.Native.Nat.{ℕ, zero, suc, _+_, _*_, _/_, _%_, _^_}
+use Prim.Native.Nat.{ℕ, zero, suc, _+_, _-_, _*_, _/_, _%_, _^_}
+use lib.Bits.{bitAnd, bitOr}
 use lib.Dec.{ltb, leb}
 use lib.ListN.{getD, set}
 use Rattle.bits.specs.Bits.{digit, bitOf}
 use Rattle.bits.specs.Choose.{if_then_else_}
+pub mod Laws
 
 -- the number in `count` bytes from `at` on, low byte first
 unfoldable pub wordAt : List ℕ → ℕ → ℕ → ℕ
@@ -22,9 +24,9 @@ putWord image at (suc count) v = putWord (set image at (v % 256)) (suc at) count
 unfoldable pub flagAt : List ℕ → ℕ → ℕ → Bool
 flagAt image at i = bitOf (getD image at 0) i
 
--- n with bit i made b: what stands above it, the bit, what stands below it
+-- a byte with bit i made b; its other bits stay
 unfoldable pub withBit : ℕ → ℕ → Bool → ℕ
-withBit n i b = n / 2 ^ suc i * 2 ^ suc i + digit b * 2 ^ i + n % 2 ^ i
+withBit n i b = bitOr (bitAnd n (255 - 2 ^ i)) (digit b * 2 ^ i)
 
 -- the image with that bit made b; a byte has eight bits, so from 8 on there is nothing to change
 unfoldable pub putFlag : List ℕ → ℕ → ℕ → Bool → List ℕ

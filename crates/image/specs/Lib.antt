@@ -1,3 +1,4 @@
+pub mod Each
 pub mod Map
 pub mod Tables
 pub mod Sent

@@ -1,11 +1,13 @@
--- "User 0000h-01FFh, registers 0200h-023Fh, calibration 0240h-027Fh, log 1000h-2FFFh" (document 01, "Memory"), and
--- where each byte of them lies in the lent image: "user memory 512, register pages 64, calibration 64, log 8,192".
--- Assumes nothing.
-use Prim.Native.Nat.{ℕ, _-_, _+_}
+-- "User 0000h-01FFh, registers 0200h-023Fh, calibration 0240h-027Fh, log 1000h-2FFFh" (document 01, "Memory"), and where
+-- each byte lies in the lent image: "user memory 512, register pages 64, calibration 64, log 8,192". Assumes nothing.
+use mathlib.Core.List.{List}
+use Prim.Native.Nat.{ℕ, _+_, _-_}
 use lib.Dec.{ltb}
+use lib.ListN.{getD}
 use Rattle.bits.specs.Choose.{if_then_else_}
 use Rattle.image.specs.declared.Region.{Region}
 use Rattle.image.specs.declared.Region.the-variants.{User, Registers, Calibration, Reserved, Log}
+pub mod Laws
 
 -- the region of an address, with the offset inside it. 0280h-0FFFh is reserved; so is 3000h and above, where nothing is
 unfoldable pub regionAt : ℕ → Region
@@ -17,12 +19,14 @@ regionAt address =
     else if ltb address 0x3000 then Log (address - 0x1000)
     else Reserved
 
--- the image's 8,832 bytes: where register o, calibration byte o and log byte o lie in it
-abbrev pub registerIndex : ℕ → ℕ
-registerIndex o = 512 + o
+-- where a region's byte lies in the image; what is reserved lies past its end
+abbrev pub indexOf : Region → ℕ
+indexOf (User o) = o
+indexOf (Registers o) = 512 + o
+indexOf (Calibration o) = 576 + o
+indexOf (Log o) = 640 + o
+indexOf Reserved = 8832
 
-abbrev pub calibrationIndex : ℕ → ℕ
-calibrationIndex o = 576 + o
-
-abbrev pub logIndex : ℕ → ℕ
-logIndex o = 640 + o
+-- the byte that the image holds there
+abbrev pub byteIn : List ℕ → Region → ℕ
+byteIn image r = getD image (indexOf r) 0

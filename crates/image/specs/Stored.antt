@@ -3,10 +3,11 @@ use mathlib.Core.List.{List, [], _∷_}
 use Prim.Native.Nat.{ℕ, suc, _-_, _%_}
 use lib.Bits.{bitAnd, bitOr}
 use lib.ListN.{getD, set, drop}
-use Rattle.image.specs.Map.{regionAt, registerIndex, calibrationIndex}
+use Rattle.image.specs.Map.{regionAt, indexOf, byteIn}
 use Rattle.image.specs.Tables.{writable}
 use Rattle.image.specs.declared.Region.{Region}
 use Rattle.image.specs.declared.Region.the-variants.{User, Registers, Calibration, Reserved, Log}
+pub mod Laws
 
 -- the old byte's bits outside the mask, the new byte's inside
 unfoldable pub blend : ℕ → ℕ → ℕ → ℕ
@@ -14,9 +15,10 @@ blend mask old new = bitOr (bitAnd old (255 - mask)) (bitAnd new mask)
 
 -- user memory and calibration take the byte, a register its writable bits; nothing else is written
 unfoldable pub storedIn : List ℕ → Region → ℕ → List ℕ
-storedIn image (User o) b = set image o b
-storedIn image (Registers o) b = set image (registerIndex o) (blend (getD writable o 0) (getD image (registerIndex o) 0) b)
-storedIn image (Calibration o) b = set image (calibrationIndex o) b
+storedIn image (User o) b = set image (indexOf (User o)) b
+storedIn image (Registers o) b =
+    set image (indexOf (Registers o)) (blend (getD writable o 0) (byteIn image (Registers o)) b)
+storedIn image (Calibration o) b = set image (indexOf (Calibration o)) b
 storedIn image Reserved b = image
 storedIn image (Log o) b = image
 

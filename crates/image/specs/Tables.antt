@@ -3,7 +3,9 @@ use mathlib.Core.List.{List, [], _∷_}
 use Prim.Native.Nat.{ℕ}
 use lib.Bits.{bitAnd}
 use lib.ListN.{getD}
-use Rattle.image.specs.Map.{registerIndex}
+use Rattle.image.specs.Map.{byteIn}
+use Rattle.image.specs.declared.Region.the-variants.{Registers}
+pub mod Laws
 
 -- "Writable bits by Copy": 0200h 7F, 0201h 7F, 0202h 3F, 0203h 3F, 0204h 9F, 0205h-0206h FF, 0207h 3F, 0208h-0209h FF,
 -- 0210h 03, 0212h 03, 0213h 35, 0216h-0218h FF, 0227h-0237h FF, the rest none
@@ -45,4 +47,4 @@ named =
 
 -- the named bits of register o: unnamed bits count as 0, for the tag's own logic too
 unfoldable pub registerAt : List ℕ → ℕ → ℕ
-registerAt image o = bitAnd (getD image (registerIndex o) 0) (getD named o 0)
+registerAt image o = bitAnd (byteIn image (Registers o)) (getD named o 0)

@@ -10,20 +10,21 @@ ghost use Rattle.image.specs.Sent.{sentAt, sentRegister};
 ghost use Rattle.image.specs.Stored.{storedAt, storedPage, blend};
 ghost use Rattle.image.specs.Tables.{writable, alwaysOne, named, registerAt};
 
+pub mod registers;
 mod tables;
 
+use registers::ALARM_STATUS;
+use registers::BOR;
+use registers::FULL_PASSWORD;
+use registers::GENERAL_STATUS;
+use registers::MIP;
+use registers::PASSWORD_CONTROL;
+use registers::READ_PASSWORD;
+use registers::THF;
+use registers::TLF;
 use tables::ALWAYS_ONE;
 use tables::NAMED;
 use tables::WRITABLE;
-
-// The registers by the sheet's names. A register's place in the image is its address.
-pub const CLOCK: usize = 0x0200;
-
-pub const RATE: usize = 0x0206;
-
-pub const LOW_THRESHOLD: usize = 0x0208;
-
-pub const HIGH_THRESHOLD: usize = 0x0209;
 
 // Where an address lies, with the offset inside the region.
 pub enum Region {
@@ -40,10 +41,27 @@ pub fn sent(image: &[u8], code: u8, address: u16) -> u8
 {
     match region_of(address) {
         Region::User(offset) => peek(image, offset as usize),
-        Region::Registers(offset) => sent_register(image, code, offset),
+        Region::Registers(offset) => {
+            let o = offset as usize;
+            if o == 0x26 {
+                return code;
+            }
+            register(image, o) | ALWAYS_ONE[o]
+        }
         Region::Calibration(offset) => peek(image, 576 + offset as usize),
         Region::Reserved => 0,
         Region::Log(offset) => peek(image, 640 + offset as usize),
+    }
+}
+
+// The named bits of the register at an offset from 0200h; past the 64 there are none.
+pub fn register(image: &[u8], offset: usize) -> u8
+    ensures { λ r. ⌜ r ≡ registerAt (now (image .entry)) offset ⌝ }
+{
+    if offset < 64 {
+        peek(image, 512 + offset) & NAMED[offset]
+    } else {
+        0
     }
 }
 
@@ -54,10 +72,10 @@ pub fn store(image: &mut [u8], address: u16, b: u8)
     match region_of(address) {
         Region::User(offset) => poke(image, offset as usize, b),
         Region::Registers(offset) => {
-            let at = 512 + offset as usize;
-            let mask = writable_bits(offset);
-            let old = peek(image, at);
-            poke(image, at, (old & (255 - mask)) | (b & mask));
+            let o = offset as usize;
+            let mask = WRITABLE[o];
+            let old = peek(image, 512 + o);
+            poke(image, 512 + o, (old & (255 - mask)) | (b & mask));
         }
         Region::Calibration(offset) => poke(image, 576 + offset as usize, b),
         Region::Reserved => {}
@@ -78,43 +96,7 @@ pub fn store_page(image: &mut [u8], pad: [u8; 32], address: u16)
     }
 }
 
-fn sent_register(image: &[u8], code: u8, offset: u16) -> u8
-    ensures { λ r. ⌜ r ≡ sentRegister (now (image .entry)) code offset ⌝ }
-{
-    if offset == 0x26 {
-        return code;
-    }
-    register(image, offset) | always_one_bits(offset)
-}
-
-// The named bits of the register at an offset from 0200h; past the 64 there are none.
-pub fn register(image: &[u8], offset: u16) -> u8
-    ensures { λ r. ⌜ r ≡ registerAt (now (image .entry)) offset ⌝ }
-{
-    peek(image, 512 + offset as usize) & named_bits(offset)
-}
-
-fn writable_bits(offset: u16) -> u8
-    ensures { λ r. ⌜ r ≡ getD writable offset 0 ⌝ }
-{
-    let o = offset as usize;
-    if o < 64 { WRITABLE[o] } else { 0 }
-}
-
-fn always_one_bits(offset: u16) -> u8
-    ensures { λ r. ⌜ r ≡ getD alwaysOne offset 0 ⌝ }
-{
-    let o = offset as usize;
-    if o < 64 { ALWAYS_ONE[o] } else { 0 }
-}
-
-fn named_bits(offset: u16) -> u8
-    ensures { λ r. ⌜ r ≡ getD named offset 0 ⌝ }
-{
-    let o = offset as usize;
-    if o < 64 { NAMED[o] } else { 0 }
-}
-
+// The region of an address.
 pub fn region_of(address: u16) -> Region
     ensures { λ r. ⌜ r ≡ regionAt address ⌝ }
 {
@@ -128,44 +110,14 @@ pub fn region_of(address: u16) -> Region
     }
 }
 
-// Conditional Search asks: is BOR, THF or TLF 1?
-pub fn alarm(image: &[u8]) -> bool
-    ensures { λ r. ⌜ r ≡ alarmed (now (image .entry)) ⌝ }
-{
-    flag(image, 0x0214, 7) || flag(image, 0x0214, 1) || flag(image, 0x0214, 0)
-}
-
-pub fn may_read(image: &[u8], field: u64) -> bool
-    ensures { λ r. ⌜ r ≡ mayRead (now (image .entry)) field ⌝ }
-{
-    may_control(image, field) || field == word(image, 0x0228, 8)
-}
-
-pub fn may_control(image: &[u8], field: u64) -> bool
-    ensures { λ r. ⌜ r ≡ mayControl (now (image .entry)) field ⌝ }
-{
-    word(image, 0x0227, 1) != 0xAA || field == word(image, 0x0230, 8)
-}
-
-pub fn may_copy(image: &[u8], field: u64, address: u16) -> bool
-    ensures { λ r. ⌜ r ≡ mayCopy (now (image .entry)) field address ⌝ }
-{
-    if address < 0x0200 {
-        return may_control(image, field);
-    }
-    if address < 0x0280 && !flag(image, 0x0215, 1) {
-        return may_control(image, field);
-    }
-    false
-}
-
+// The number in `count` bytes from `at` on, low byte first; of more than eight, the first eight.
 pub fn word(image: &[u8], at: usize, count: usize) -> u64
     ensures { λ r. ⌜ r ≡ wordAt (now (image .entry)) at (min count 8) ⌝ }
 {
     if image.len() <= at {
         return 0;
     }
-    let mut i = if count < 8 { count } else { 8 };
+    let mut i = up_to_8(count);
     let mut v: u64 = 0;
     while 0 < i {
         i -= 1;
@@ -174,13 +126,14 @@ pub fn word(image: &[u8], at: usize, count: usize) -> u64
     v
 }
 
+// Stores a number there, low byte first, as much of it as the bytes hold.
 pub fn put_word(image: &mut [u8], at: usize, count: usize, v: u64)
     ensures { λ _. ⌜ now (image .exit) ≡ putWord (now (image .entry)) at (min count 8) v ⌝ }
 {
     if image.len() <= at {
         return;
     }
-    let n = if count < 8 { count } else { 8 };
+    let n = up_to_8(count);
     let mut rest = v;
     let mut i = 0;
     while i < n {
@@ -190,33 +143,91 @@ pub fn put_word(image: &mut [u8], at: usize, count: usize, v: u64)
     }
 }
 
+fn up_to_8(count: usize) -> usize
+    ensures { λ r. ⌜ r ≡ min count 8 ⌝ }
+{
+    if count < 8 { count } else { 8 }
+}
+
+// Bit `bit` of the byte at `at`.
 pub fn flag(image: &[u8], at: usize, bit: u8) -> bool
     ensures { λ r. ⌜ r ≡ flagAt (now (image .entry)) at bit ⌝ }
 {
     bits::bit(peek(image, at) as u64, bit)
 }
 
+// Makes that bit `b`; a byte has eight.
 pub fn put_flag(image: &mut [u8], at: usize, bit: u8, b: bool)
     ensures { λ _. ⌜ now (image .exit) ≡ putFlag (now (image .entry)) at bit b ⌝ }
 {
     if bit < 8 {
-        let n = peek(image, at) as u16;
-        let one = 1u16 << bit;
-        let own = if b { one } else { 0 };
-        poke(image, at, (n / (2 * one) * (2 * one) + own + n % one) as u8);
+        let one = 1u8 << bit;
+        let others = peek(image, at) & (255 - one);
+        poke(image, at, if b { others | one } else { others });
     }
 }
 
+// The byte at `at`; past the end, 0.
 pub fn peek(image: &[u8], at: usize) -> u8
     ensures { λ r. ⌜ r ≡ getD (now (image .entry)) at 0 ⌝ }
 {
     if at < image.len() { image[at] } else { 0 }
 }
 
+// Stores a byte at `at`; past the end, nothing.
 pub fn poke(image: &mut [u8], at: usize, b: u8)
     ensures { λ _. ⌜ now (image .exit) ≡ set (now (image .entry)) at b ⌝ }
 {
     if at < image.len() {
         image[at] = b;
     }
+}
+
+// Conditional Search asks: is BOR, THF or TLF 1?
+pub fn alarm(image: &[u8]) -> bool
+    ensures { λ r. ⌜ r ≡ alarmed (now (image .entry)) ⌝ }
+{
+    if flag(image, ALARM_STATUS, BOR) {
+        return true;
+    }
+    if flag(image, ALARM_STATUS, THF) {
+        return true;
+    }
+    flag(image, ALARM_STATUS, TLF)
+}
+
+// Read Memory asks: may this password field read?
+pub fn may_read(image: &[u8], field: u64) -> bool
+    ensures { λ r. ⌜ r ≡ mayRead (now (image .entry)) field ⌝ }
+{
+    if may_control(image, field) {
+        return true;
+    }
+    field == word(image, READ_PASSWORD, 8)
+}
+
+// Clear, Start and Stop ask: may this password field do it?
+pub fn may_control(image: &[u8], field: u64) -> bool
+    ensures { λ r. ⌜ r ≡ mayControl (now (image .entry)) field ⌝ }
+{
+    if peek(image, PASSWORD_CONTROL) == 0xAA {
+        return field == word(image, FULL_PASSWORD, 8);
+    }
+    true
+}
+
+// Copy asks: may this password field write at this address now?
+pub fn may_copy(image: &[u8], field: u64, address: u16) -> bool
+    ensures { λ r. ⌜ r ≡ mayCopy (now (image .entry)) field address ⌝ }
+{
+    if address < 0x0200 {
+        return may_control(image, field);
+    }
+    if address < 0x0280 {
+        if flag(image, GENERAL_STATUS, MIP) {
+            return false;
+        }
+        return may_control(image, field);
+    }
+    false
 }
