@@ -3,12 +3,12 @@
 ghost use mathlib.Core.Path.{_≡_};
 ghost use Prim.Native.Nat.{min};
 ghost use lib.ListN.{getD, set};
-ghost use Rattle.image.specs.Answers.{alarmed, checked, mayRead, mayControl, mayCopy};
+ghost use Rattle.image.specs.Answers.{alarmed, mayRead, mayControl, mayCopy};
 ghost use Rattle.image.specs.Fields.{wordAt, putWord, flagAt, putFlag};
 ghost use Rattle.image.specs.Map.{regionAt};
-ghost use Rattle.image.specs.Sent.{sentAt, sentRegister};
-ghost use Rattle.image.specs.Stored.{storedAt, storedPage, blend};
-ghost use Rattle.image.specs.Tables.{writable, alwaysOne, named, registerAt};
+ghost use Rattle.image.specs.Sent.{sentAt};
+ghost use Rattle.image.specs.Stored.{storedAt, storedPage};
+ghost use Rattle.image.specs.Tables.{registerAt};
 
 pub mod registers;
 mod tables;
@@ -163,7 +163,11 @@ pub fn put_flag(image: &mut [u8], at: usize, bit: u8, b: bool)
     if bit < 8 {
         let one = 1u8 << bit;
         let others = peek(image, at) & (255 - one);
-        poke(image, at, if b { others | one } else { others });
+        if b {
+            poke(image, at, others | one);
+        } else {
+            poke(image, at, others);
+        }
     }
 }
 

@@ -1,6 +1,6 @@
 -- What is put into a field is read back, and a put leaves every field apart from it: once for each kind of field, over
 -- place and size. For two fields whose places are numerals, `apart` computes, and `tt` closes it. Assumes nothing.
-use mathlib.Core.Path.{_≡_, refl, sym, ap, _∙_, subst}
+use mathlib.Core.Path.{_≡_, refl, sym, _∙_, subst}
 use mathlib.Core.Bool.{Bool, true, false, not, _&&_, _||_, Bool·beq}
 use mathlib.Core.List.{List, [], _∷_}
 use mathlib.Core.Logic.{_≢_, _⊎_, inl, inr, ⊎-elim, dite}
