@@ -4,5 +4,6 @@ pub mod Tables
 pub mod Sent
 pub mod Stored
 pub mod Fields
+pub mod Keeps
 pub mod Registers
 pub mod Answers

@@ -11,7 +11,7 @@ use native.Mathlib.Decide.{ℕ-discrete, decLt}
 use borrow.Author.Tests.{lt-ltb, ltb-true, eq-eqb, ne-eqb}
 use lib.Arith.{mod-mul}
 use lib.Bits.{bitAnd, bitOr, and-shr, or-shr, and-mod, or-mod, and-le-r, or-lt}
-use lib.Dec.{T, T-not, leb→le, leb, ltb, eqb, eqb-refl, ltb→lt}
+use lib.Dec.{T, T-not, leb→le, le→leb, leb, ltb, eqb, eqb-refl, ltb→lt}
 use lib.ListN.{length, getD, set, length-set, List·getD-eq-default}
 use lib.Pow.{pow-lt}
 use lib.Seq.{getD-set-same, getD-set-other, set-out}
@@ -22,14 +22,31 @@ use Rattle.image.specs.Fields.{wordAt, putWord, flagAt, withBit, putFlag
 
 -- ---- apart
 
-either : (p q : Bool) → T (p || q) → T p ⊎ T q
+-- one of two tests passes
+pub either : (p q : Bool) → T (p || q) → T p ⊎ T q
 either true q t = inl tt
 either false q t = inr t
 
--- two runs that are apart: the one ends before the other begins
+pub either-of : (p q : Bool) → T p ⊎ T q → T (p || q)
+either-of true q h = tt
+either-of false q h = ⊎-elim (λ t. absurd t) (λ t. t) h
+
+-- two runs are apart exactly if the one ends before the other begins
 pub apart-cases : (at m at' n : ℕ) → T (apart at m at' n) → (at + m ≤ at') ⊎ (at' + n ≤ at)
 apart-cases at m at' n t =
     ⊎-elim (λ l. inl (leb→le _ _ l)) (λ l. inr (leb→le _ _ l)) (either (leb (at + m) at') (leb (at' + n) at) t)
+
+pub apart-of : (at m at' n : ℕ) → (at + m ≤ at') ⊎ (at' + n ≤ at) → T (apart at m at' n)
+apart-of at m at' n h =
+    either-of (leb (at + m) at') (leb (at' + n) at) (⊎-elim (λ l. inl (le→leb _ _ l)) (λ l. inr (le→leb _ _ l)) h)
+
+pub apart-sym : (at m at' n : ℕ) → T (apart at m at' n) → T (apart at' n at m)
+apart-sym at m at' n t = apart-of at' n at m (⊎-elim inr inl (apart-cases at m at' n t))
+
+-- what is apart from a run is apart from each part of it
+pub apart-part : (at m at' n k j : ℕ) → at' ≤ k → k + j ≤ at' + n → T (apart at m at' n) → T (apart at m k j)
+apart-part at m at' n k j lo hi t =
+    apart-of at m k j (⊎-elim (λ l. inl (omega arith)) (λ l. inr (omega arith)) (apart-cases at m at' n t))
 
 -- ---- bytes
 
@@ -44,6 +61,11 @@ bytes-set (x ∷ xs) zero b bytes small zero = small
 bytes-set (x ∷ xs) zero b bytes small (suc k) = bytes (suc k)
 bytes-set (x ∷ xs) (suc at) b bytes small zero = bytes zero
 bytes-set (x ∷ xs) (suc at) b bytes small (suc k) = bytes-set xs at b (λ i. bytes (suc i)) small k
+
+-- a store leaves every other byte
+pub byte-set-other : (image : List ℕ) (at b k : ℕ) → T (apart at 1 k 1) → getD (set image at b) k 0 ≡ getD image k 0
+byte-set-other image at b k t =
+    getD-set-other image at k b 0 (λ e. ⊎-elim (λ l. omega arith) (λ l. omega arith) (apart-cases at 1 k 1 t))
 
 -- ---- words
 
