@@ -1,0 +1,32 @@
+-- `image::register` meets its contract: the code's table of named bits is the definition's, and past it there are none.
+-- Assumes nothing.
+use borrow.Author.Needs.{needs}
+use lib.Bits.{and-zero-r}
+use lib.ListN.{List·getD-eq-default}
+use Rattle.image.specs.Map.{byteIn}
+use Rattle.image.specs.Tables.{named, registerAt}
+use Rattle.image.specs.declared.Region.the-variants.{Registers}
+use Rattle.image.proofs.register.Statement.{statement}
+use Rattle.image.proofs.register.Tie as tie
+
+add-peek : tie.Need-add-peek
+add-peek c = search needs
+
+peek-requires : tie.Need-peek-requires
+peek-requires c κs = search needs
+
+array-read-result : tie.Need-array-read-result
+array-read-result c = search needs
+
+returns : tie.Need-returns
+unfolding registerAt named
+returns c = rw (c .peek .ensures)
+
+returns-2 : tie.Need-returns-2
+unfolding registerAt named
+returns-2 c =
+    let image = c .before .before .args .image .now in
+    rw (List·getD-eq-default named 0 (c .if1 .left), and-zero-r (byteIn image (Registers (c .before .before .args .offset))))
+
+pub register-spec : {M : Type 1} → statement M
+register-spec = tie.close (tie.spec add-peek peek-requires array-read-result returns returns-2)
