@@ -1,18 +1,28 @@
 -- The clock, "seconds, minutes, hours, date, month with CENT in bit 7, year, all BCD; 24-hour only" (document 01, "Memory"),
 -- and one second on ("A mission"). Assumes nothing.
 use mathlib.Core.Bool.{Bool, true, false, not, _&&_, _||_}
-use Prim.Native.Nat.{ℕ, zero, suc, _+_, _-_, _*_, _/_, _%_}
+use Prim.Native.Nat.{ℕ, zero, suc, _+_, _-_, _*_, _/_, _%_, _≤_}
 use lib.Dec.{leb, ltb, eqb}
 use Rattle.bits.specs.Choose.{if_then_else_}
 use Rattle.calendar.specs.declared.Clock.{Clock}
 use Rattle.calendar.specs.declared.Stepped.{Stepped}
 pub mod Laws
+pub mod Named
 
--- "BCD": tens in the high half, ones in the low half
+-- ---- BCD
+
+-- tens in the high half, ones in the low half
 unfoldable pub decimal : ℕ → ℕ
 decimal byte = 10 * (byte / 16) + byte % 16
 
--- a valid field: no digit above 9, and not outside lowest .. last
+-- no digit above 9
+pub record Digits (byte : ℕ) : Type 0 where
+  pub tens : byte / 16 ≤ 9
+  pub ones : byte % 16 ≤ 9
+
+-- ---- one field
+
+-- a valid field: no digit above 9, and not outside lowest .. last (BCD bytes stand in the order of their numbers)
 unfoldable pub isValid : ℕ → ℕ → ℕ → Bool
 isValid lowest last byte = leb (byte / 16) 9 && leb (byte % 16) 9 && leb lowest byte && leb byte last
 
@@ -30,11 +40,13 @@ stepField lowest last byte =
 unfoldable pub carried : Stepped → (ℕ → Stepped) → ℕ → Stepped
 carried before step byte = if before .carry then step byte else record { byte = byte; carry = false }
 
+-- ---- the fields that are not alike
+
 -- "24-hour only"
 unfoldable pub stepHours : ℕ → Stepped
 stepHours byte = stepField 0x00 0x23 byte
 
--- "month with CENT in bit 7": the month is bits 4-0, and CENT is kept as the month steps
+-- "month with CENT in bit 7": the month is bits 4-0, which step below CENT
 unfoldable pub stepMonth : ℕ → Stepped
 stepMonth byte =
     let month = stepField 0x01 0x12 (byte % 32) in
@@ -55,7 +67,9 @@ daysIn month year =
     else if eqb month 0x04 || eqb month 0x06 || eqb month 0x09 || eqb month 0x11 then 0x30
     else 0x31
 
--- the date, month and year one day on
+-- ---- the clock
+
+-- the date, month and year one day on, by the month and year that the day ends in
 unfoldable pub nextDay : Clock → Clock
 nextDay c =
     let date = stepField 0x01 (daysIn (c .month % 32) (c .year)) (c .date) in

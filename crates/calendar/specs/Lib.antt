@@ -1,2 +1,3 @@
 pub mod Calendar
+pub mod Points
 pub mod Meaning

@@ -6,22 +6,23 @@ use lib.Dec.{eqb}
 use lib.ListN.{getD}
 use Rattle.bits.specs.Choose.{if_then_else_}
 use Rattle.calendar.specs.declared.Clock.{Clock}
-use Rattle.calendar.specs.Calendar.{decimal}
-use Rattle.calendar.specs.Calendar.Laws.{Digits}
+use Rattle.calendar.specs.Calendar.{decimal, Digits}
 pub mod Sums
 pub mod Fields
 pub mod Months
 pub mod Days
 pub mod Seconds
+pub mod Unique
+pub mod Laws
 
--- ---- years and months, from 0
+-- ---- years and months, counted from 0
 
 -- the sum of f 0 .. f (n - 1)
 unfoldable pub sumBelow : (ℕ → ℕ) → ℕ → ℕ
 sumBelow f zero = 0
 sumBelow f (suc n) = sumBelow f n + f n
 
--- 1 in a year that divides by 4
+-- "February has 29 days when the year divides by 4" (document 01, "A mission"); year 00 does
 unfoldable pub leapDay : ℕ → ℕ
 leapDay year = if eqb (year % 4) 0 then 1 else 0
 
@@ -35,6 +36,7 @@ monthLength year month =
 
 -- ---- what a clock says
 
+-- "month with CENT in bit 7" (document 01, "Memory")
 unfoldable pub centOf : Clock → ℕ
 centOf c = c .month / 128
 
@@ -45,7 +47,7 @@ yearOf c = decimal (c .year)
 unfoldable pub monthsOver : Clock → ℕ
 monthsOver c = decimal (c .month % 128) - 1
 
--- the days of the century that are over
+-- the days of the century that are over: of whole years, of whole months, and of the month
 unfoldable pub daysOver : Clock → ℕ
 daysOver c = sumBelow yearLength (yearOf c) + sumBelow (monthLength (yearOf c)) (monthsOver c) + (decimal (c .date) - 1)
 
@@ -69,7 +71,7 @@ pub record Writes (lowest last byte : ℕ) : Type 0 where
   pub above : lowest ≤ decimal byte
   pub below : decimal byte ≤ last
 
--- each field in its range, the date's by its month and year, and nothing but CENT above the month
+-- each field "BCD" and in its range, the date's by its month and year; above the month stands CENT alone
 pub record Valid (c : Clock) : Type 0 where
   pub seconds : Writes 0 59 (c .seconds)
   pub minutes : Writes 0 59 (c .minutes)

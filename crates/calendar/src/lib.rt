@@ -1,7 +1,6 @@
 // The clock's six BCD fields, one second on. A field at its last value, or not valid, returns to its lowest and carries to
 // the next; a field is looked at only when it steps. Every function answers any six bytes.
 ghost use mathlib.Core.Path.{_≡_};
-ghost use Prim.Native.Nat.{_%_};
 ghost use Rattle.calendar.specs.Calendar.{isValid, stepField, stepHours, stepMonth, isLeap, daysIn, flipped, nextDay, nextSecond};
 
 // The registers 0200h-0205h. `month` holds CENT in bit 7 and the month in bits 4-0.
@@ -15,9 +14,9 @@ pub struct Clock {
 }
 
 // What a field becomes as it steps, and whether it carries to the next.
-pub struct Stepped {
-    pub byte: u8,
-    pub carry: bool,
+struct Stepped {
+    byte: u8,
+    carry: bool,
 }
 
 // One second on. Most seconds step one field alone, so each field's carry is tested before the next is looked at.
@@ -81,8 +80,9 @@ fn step_month(byte: u8) -> Stepped
     if byte < 128 {
         month
     } else {
+        let next = month.byte + 128;
         Stepped {
-            byte: month.byte + 128,
+            byte: next,
             carry: month.carry,
         }
     }
@@ -123,13 +123,15 @@ fn step(lowest: u8, last: u8, byte: u8) -> Stepped
             carry: true,
         }
     } else if byte % 16 == 9 {
+        let next = byte + 7;
         Stepped {
-            byte: byte + 7,
+            byte: next,
             carry: false,
         }
     } else {
+        let next = byte + 1;
         Stepped {
-            byte: byte + 1,
+            byte: next,
             carry: false,
         }
     }

@@ -4,7 +4,8 @@ use mathlib.Core.List.{List}
 use Prim.Native.Nat.{ℕ}
 use lib.Dec.{eqb, ltb}
 use Rattle.bits.specs.Choose.{if_then_else_}
-use Rattle.image.specs.Registers.{bor, thf, tlf, mip, control, readPassword, fullPassword}
+use Rattle.image.specs.Registers.{bor, thf, tlf, mip, passwordControl, readPassword, fullPassword}
+pub mod Laws
 
 -- "Conditional Search is joined only if BOR, THF or TLF is 1"
 unfoldable pub alarmed : List ℕ → Bool
@@ -12,7 +13,7 @@ alarmed image = bor image || thf image || tlf image
 
 -- "With 0227h equal to AAh passwords are checked, else any eight bytes pass"
 unfoldable pub checked : List ℕ → Bool
-checked image = eqb (control image) 0xAA
+checked image = eqb (passwordControl image) 0xAA
 
 -- Clear, Start, Stop: "eight full-password bytes"
 unfoldable pub mayControl : List ℕ → ℕ → Bool

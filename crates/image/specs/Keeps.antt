@@ -4,17 +4,17 @@ use mathlib.Core.Path.{_≡_, refl, _∙_}
 use mathlib.Core.Bool.{Bool, true, false, _&&_, _||_}
 use mathlib.Core.List.{List, [], _∷_}
 use mathlib.Core.Logic.{⊎-elim}
-use Prim.Native.Nat.{ℕ, _+_, _≤_, _<_}
-use native.Mathlib.Numerals.{add-one}
+use Prim.Native.Nat.{ℕ, _+_, _≤_}
 use native.Mathlib.Omega.{arith}
-use lib.Dec.{T, leb, leb→le, le→leb}
+use lib.Dec.{T, leb, leb→le}
 use lib.Ieee.Fits.{and-l, and-r, and-i}
 use lib.ListN.{length, getD, set, length-set}
-use lib.Seq.{getD-set-other}
 use Rattle.bits.specs.Choose.{if_then_else_}
 use Rattle.image.specs.Fields.{wordAt, putWord, flagAt, putFlag, apart}
-use Rattle.image.specs.Fields.Laws.{either, apart-sym, apart-part, byte-set-other, word-same, length-putWord, byte-putWord-other, length-putFlag, byte-putFlag-other}
+use Rattle.image.specs.Fields.Laws.{either, apart-sym, apart-part, byte-set-other, word-same}
+use Rattle.image.specs.Fields.Laws.{length-putWord, byte-putWord-other, length-putFlag, byte-putFlag-other}
 
+-- a place and a count of bytes
 abbrev pub Run : Type 0
 Run = ℕ × ℕ
 
@@ -42,6 +42,7 @@ pub record Keeps (runs : List Run) (before after : List ℕ) : Type 0 where
   pub lengths : length after ≡ length before
   pub bytes : (k : ℕ) → T (free runs k 1) → getD after k 0 ≡ getD before k 0
 
+-- nothing done keeps all; one change after another keeps what both keep; and so does a choice between two
 module _ {runs : List Run} where
   pub keeps-same : {image : List ℕ} → Keeps runs image image
   keeps-same = record { lengths = refl; bytes = λ k t. refl }
@@ -69,12 +70,12 @@ free-covered (s ∷ ss) r k c f =
         (apart-sym (s .0) (s .1) k 1 (and-l (apart (s .0) (s .1) k 1) (free ss k 1) f)))
 
 -- what is free of the runs is so in each part
-free-part : (runs : List Run) (at n k : ℕ) → at ≤ k → k < at + n → T (free runs at n) → T (free runs k 1)
-free-part [] at n k lo hi t = tt
-free-part (r ∷ rs) at n k lo hi t =
-    and-i (apart (r .0) (r .1) k 1) (free rs k 1)
-    (apart-part (r .0) (r .1) at n k 1 lo (omega arith) (and-l (apart (r .0) (r .1) at n) (free rs at n) t))
-    (free-part rs at n k lo hi (and-r (apart (r .0) (r .1) at n) (free rs at n) t))
+pub free-part : (runs : List Run) (at n k j : ℕ) → at ≤ k → k + j ≤ at + n → T (free runs at n) → T (free runs k j)
+free-part [] at n k j lo hi t = tt
+free-part (r ∷ rs) at n k j lo hi t =
+    and-i (apart (r .0) (r .1) k j) (free rs k j)
+    (apart-part (r .0) (r .1) at n k j lo hi (and-l (apart (r .0) (r .1) at n) (free rs at n) t))
+    (free-part rs at n k j lo hi (and-r (apart (r .0) (r .1) at n) (free rs at n) t))
 
 -- more runs may be named than a change touches
 pub keeps-wider : (ss rs : List Run) {a b : List ℕ} → T (coversAll ss rs) → Keeps rs a b → Keeps ss a b
@@ -83,7 +84,9 @@ keeps-wider ss rs t p = record { lengths = p .lengths; bytes = λ k f. p .bytes 
     every : (rs : List Run) → T (coversAll ss rs) → (k : ℕ) → T (free ss k 1) → T (free rs k 1)
     every [] t k f = tt
     every (r ∷ rs) t k f =
-        and-i (apart (r .0) (r .1) k 1) (free rs k 1) (free-covered ss r k (and-l (covers ss r) (coversAll ss rs) t) f) (every rs (and-r (covers ss r) (coversAll ss rs) t) k f)
+        and-i (apart (r .0) (r .1) k 1) (free rs k 1)
+        (free-covered ss r k (and-l (covers ss r) (coversAll ss rs) t) f)
+        (every rs (and-r (covers ss r) (coversAll ss rs) t) k f)
 
 -- ---- what the puts keep
 
@@ -99,11 +102,14 @@ pub keeps-putFlag : (image : List ℕ) (at i : ℕ) (b : Bool) → Keeps ((at, 1
 keeps-putFlag image at i b =
     record { lengths = length-putFlag image at i b; bytes = λ k t. byte-putFlag-other image at i b k (and-l (apart at 1 k 1) true t) }
 
--- ---- what is kept
+-- ---- what is kept: every word and every flag that is free of the runs
 
-pub word-kept : {runs : List Run} {before after : List ℕ} (at n : ℕ) → Keeps runs before after → T (free runs at n) → wordAt after at n ≡ wordAt before at n
-word-kept {runs} {before} {after} at n p t = word-same after before at n (λ k lo hi. p .bytes k (free-part runs at n k lo hi t))
+pub word-kept : {runs : List Run} {before after : List ℕ} (at n : ℕ) → Keeps runs before after → T (free runs at n)
+    → wordAt after at n ≡ wordAt before at n
+word-kept {runs} {before} {after} at n p t =
+    word-same after before at n (λ k lo hi. p .bytes k (free-part runs at n k 1 lo (omega arith) t))
 
-pub flag-kept : {runs : List Run} {before after : List ℕ} (at i : ℕ) → Keeps runs before after → T (free runs at 1) → flagAt after at i ≡ flagAt before at i
+pub flag-kept : {runs : List Run} {before after : List ℕ} (at i : ℕ) → Keeps runs before after → T (free runs at 1)
+    → flagAt after at i ≡ flagAt before at i
 unfolding flagAt
 flag-kept at i p t = rw (p .bytes at t)

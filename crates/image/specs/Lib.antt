@@ -1,9 +1,9 @@
-pub mod Each
 pub mod Map
 pub mod Tables
 pub mod Sent
 pub mod Stored
 pub mod Fields
-pub mod Keeps
 pub mod Registers
 pub mod Answers
+pub mod Keeps
+pub mod Each

@@ -19,7 +19,7 @@ regionAt address =
     else if ltb address 0x3000 then Log (address - 0x1000)
     else Reserved
 
--- where a region's byte lies in the image; what is reserved lies past its end
+-- where a region's byte lies in the image; what is reserved lies nowhere, and 8832 is past the end
 abbrev pub indexOf : Region → ℕ
 indexOf (User o) = o
 indexOf (Registers o) = 512 + o

@@ -5,10 +5,11 @@ use mathlib.Core.List.{List}
 use Prim.Native.Nat.{ℕ, _*_, _/_, _%_, _^_}
 use lib.ListN.{getD}
 use Rattle.image.specs.Fields.{wordAt, putWord, flagAt, putFlag}
+pub mod Laws
 
 -- ---- what the tag reads
 
--- "0206h rate low, 0207h high", of which six bits are named
+-- "0206h rate low, 0207h high": of the high byte six bits are named, so 14 bits in all
 abbrev pub rate : List ℕ → ℕ
 rate image = wordAt image 0x0206 2 % 2 ^ 14
 
@@ -74,7 +75,7 @@ wfta image = flagAt image 0x0215 4
 abbrev pub delay : List ℕ → ℕ
 delay image = wordAt image 0x0216 3
 
--- "0219h stamp, 6 bytes"
+-- "0219h stamp, 6 bytes", as one number, the seconds lowest
 abbrev pub stamp : List ℕ → ℕ
 stamp image = wordAt image 0x0219 6
 
@@ -86,8 +87,8 @@ abbrev pub deviceSamples : List ℕ → ℕ
 deviceSamples image = wordAt image 0x0223 3
 
 -- "With 0227h equal to AAh passwords are checked"
-abbrev pub control : List ℕ → ℕ
-control image = getD image 0x0227 0
+abbrev pub passwordControl : List ℕ → ℕ
+passwordControl image = getD image 0x0227 0
 
 -- "Passwords (0228h, 0230h)": the sheet has the read access password at 0228h, the full access password at 0230h
 abbrev pub readPassword : List ℕ → ℕ
@@ -96,7 +97,7 @@ readPassword image = wordAt image 0x0228 8
 abbrev pub fullPassword : List ℕ → ℕ
 fullPassword image = wordAt image 0x0230 8
 
--- ---- what the tag itself writes
+-- ---- what the tag itself writes, at the same places
 
 abbrev pub putLatest : List ℕ → ℕ → List ℕ
 putLatest image reading = putWord image 0x020C 2 (reading * 32)

@@ -1,29 +1,27 @@
 -- What Read Memory sends at an address (document 01, "Memory"). Assumes nothing.
 use mathlib.Core.List.{List}
 use Prim.Native.Nat.{ℕ}
-use lib.Bits.{bitOr}
+use lib.Bits.{bitAnd, bitOr}
 use lib.Dec.{eqb}
 use lib.ListN.{getD}
 use Rattle.bits.specs.Choose.{if_then_else_}
 use Rattle.image.specs.Map.{regionAt, byteIn}
-use Rattle.image.specs.Tables.{alwaysOne, registerAt}
+use Rattle.image.specs.Tables.{alwaysOne, named}
 use Rattle.image.specs.declared.Region.{Region}
 use Rattle.image.specs.declared.Region.the-variants.{User, Registers, Calibration, Reserved, Log}
 pub mod Laws
 
--- "0226h is the code"; of any other register the named bits, and the bits that are always one
-unfoldable pub sentRegister : List ℕ → ℕ → ℕ → ℕ
-sentRegister image code o =
-    if eqb o 0x26 then code
-    else bitOr (registerAt image o) (getD alwaysOne o 0)
+-- what is sent of a byte: of user memory, calibration and log the byte; of a register its named bits, and the bits that are always
+-- one; "0226h is the code"; "0280h-0FFFh reads 00h"
+unfoldable pub sentByte : ℕ → Region → ℕ → ℕ
+sentByte code (User o) byte = byte
+sentByte code (Registers o) byte = if eqb o 0x26 then code else bitOr (bitAnd byte (getD named o 0)) (getD alwaysOne o 0)
+sentByte code (Calibration o) byte = byte
+sentByte code Reserved byte = 0
+sentByte code (Log o) byte = byte
 
--- user memory, calibration and log as the image holds them; "0280h-0FFFh reads 00h"
-unfoldable pub sentFrom : List ℕ → ℕ → Region → ℕ
-sentFrom image code (User o) = byteIn image (User o)
-sentFrom image code (Registers o) = sentRegister image code o
-sentFrom image code (Calibration o) = byteIn image (Calibration o)
-sentFrom image code Reserved = 0
-sentFrom image code (Log o) = byteIn image (Log o)
+unfoldable pub sentIn : List ℕ → ℕ → Region → ℕ
+sentIn image code r = sentByte code r (byteIn image r)
 
 unfoldable pub sentAt : List ℕ → ℕ → ℕ → ℕ
-sentAt image code address = sentFrom image code (regionAt address)
+sentAt image code address = sentIn image code (regionAt address)

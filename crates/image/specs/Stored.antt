@@ -8,19 +8,22 @@ use Rattle.image.specs.Tables.{writable}
 use Rattle.image.specs.declared.Region.{Region}
 use Rattle.image.specs.declared.Region.the-variants.{User, Registers, Calibration, Reserved, Log}
 pub mod Laws
+pub mod Sent
 
 -- the old byte's bits outside the mask, the new byte's inside
 unfoldable pub blend : ℕ → ℕ → ℕ → ℕ
 blend mask old new = bitOr (bitAnd old (255 - mask)) (bitAnd new mask)
 
--- user memory and calibration take the byte, a register its writable bits; nothing else is written
+-- what a byte becomes: user memory and calibration take the new one, a register its writable bits; nothing else is written
+unfoldable pub storedByte : Region → ℕ → ℕ → ℕ
+storedByte (User o) old new = new
+storedByte (Registers o) old new = blend (getD writable o 0) old new
+storedByte (Calibration o) old new = new
+storedByte Reserved old new = old
+storedByte (Log o) old new = old
+
 unfoldable pub storedIn : List ℕ → Region → ℕ → List ℕ
-storedIn image (User o) b = set image (indexOf (User o)) b
-storedIn image (Registers o) b =
-    set image (indexOf (Registers o)) (blend (getD writable o 0) (byteIn image (Registers o)) b)
-storedIn image (Calibration o) b = set image (indexOf (Calibration o)) b
-storedIn image Reserved b = image
-storedIn image (Log o) b = image
+storedIn image r b = set image (indexOf r) (storedByte r (byteIn image r) b)
 
 unfoldable pub storedAt : List ℕ → ℕ → ℕ → List ℕ
 storedAt image address b = storedIn image (regionAt address) b

@@ -7,7 +7,7 @@ ghost use Rattle.image.specs.Answers.{alarmed, mayRead, mayControl, mayC
 ghost use Rattle.image.specs.Fields.{wordAt, putWord, flagAt, putFlag};
 ghost use Rattle.image.specs.Map.{regionAt};
 ghost use Rattle.image.specs.Sent.{sentAt};
-ghost use Rattle.image.specs.Stored.{storedAt, storedPage};
+ghost use Rattle.image.specs.Stored.{storedAt, storedPage, blend};
 ghost use Rattle.image.specs.Tables.{registerAt};
 
 pub mod registers;
@@ -25,6 +25,13 @@ use registers::TLF;
 use tables::ALWAYS_ONE;
 use tables::NAMED;
 use tables::WRITABLE;
+
+// Where the register pages, the calibration and the log lie in the image. User memory lies at 0.
+pub const REGISTERS_AT: usize = 512;
+
+pub const CALIBRATION_AT: usize = 576;
+
+pub const LOG_AT: usize = 640;
 
 // Where an address lies, with the offset inside the region.
 pub enum Region {
@@ -48,9 +55,9 @@ pub fn sent(image: &[u8], code: u8, address: u16) -> u8
             }
             register(image, o) | ALWAYS_ONE[o]
         }
-        Region::Calibration(offset) => peek(image, 576 + offset as usize),
+        Region::Calibration(offset) => peek(image, CALIBRATION_AT + offset as usize),
         Region::Reserved => 0,
-        Region::Log(offset) => peek(image, 640 + offset as usize),
+        Region::Log(offset) => peek(image, LOG_AT + offset as usize),
     }
 }
 
@@ -59,7 +66,7 @@ pub fn register(image: &[u8], offset: usize) -> u8
     ensures { λ r. ⌜ r ≡ registerAt (now (image .entry)) offset ⌝ }
 {
     if offset < 64 {
-        peek(image, 512 + offset) & NAMED[offset]
+        peek(image, REGISTERS_AT + offset) & NAMED[offset]
     } else {
         0
     }
@@ -73,14 +80,20 @@ pub fn store(image: &mut [u8], address: u16, b: u8)
         Region::User(offset) => poke(image, offset as usize, b),
         Region::Registers(offset) => {
             let o = offset as usize;
-            let mask = WRITABLE[o];
-            let old = peek(image, 512 + o);
-            poke(image, 512 + o, (old & (255 - mask)) | (b & mask));
+            let kept = blended(WRITABLE[o], peek(image, REGISTERS_AT + o), b);
+            poke(image, REGISTERS_AT + o, kept);
         }
-        Region::Calibration(offset) => poke(image, 576 + offset as usize, b),
+        Region::Calibration(offset) => poke(image, CALIBRATION_AT + offset as usize, b),
         Region::Reserved => {}
         Region::Log(_) => {}
     }
+}
+
+// The old byte's bits outside the mask, the new byte's inside.
+fn blended(mask: u8, old: u8, new: u8) -> u8
+    ensures { λ r. ⌜ r ≡ blend mask old new ⌝ }
+{
+    (old & (255 - mask)) | (new & mask)
 }
 
 // Copy: the scratchpad's bytes from the address's offset to the page's end, each stored at its address.

@@ -22,11 +22,11 @@ test c = ⊎-elim (λ w. simp (w .1, eq-eqb _ _ (w .0 .taken))) (λ w. simp (ne-
 between : (c : tie.Else2) → Between (c .before .before .args .lowest) (c .before .before .args .last) (c .before .before .args .byte)
 between c = goes-on-between _ _ _ (sym (test (c .before)) ∙ c .if2 .left)
 
-add-t11 : tie.Need-add-t11
-add-t11 c = omega (arith, between (c .before))
+add-next : tie.Need-add-next
+add-next c = omega (arith, between (c .before))
 
-add-t12 : tie.Need-add-t12
-add-t12 c = omega (arith, between (c .before))
+add-next-2 : tie.Need-add-next-2
+add-next-2 c = omega (arith, between (c .before))
 
 returns : tie.Need-returns
 unfolding stepField
@@ -41,4 +41,4 @@ unfolding stepField plusOne
 returns-3 c = rw (← test (c .before .before), c .before .if2 .left) (rw (ne-eqb _ _ (c .if3 .left)))
 
 pub step-spec : {M : Type 1} → statement M
-step-spec = tie.close (tie.spec valid-requires add-t11 add-t12 returns returns-2 returns-3)
+step-spec = tie.close (tie.spec valid-requires add-next add-next-2 returns returns-2 returns-3)

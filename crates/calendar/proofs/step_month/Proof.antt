@@ -17,8 +17,8 @@ step-requires c κs = search needs
 small : (byte : ℕ) → stepField 0x01 0x12 (byte % 32) .byte ≤ 0x12
 small byte = step-le (byte % 32) (lit≤ tt) (lit≤ tt)
 
-add-t6 : tie.Need-add-t6
-add-t6 c = rw (c .before .before .step .ensures) (omega (arith, small (c .before .before .before .args .byte)))
+add-next : tie.Need-add-next
+add-next c = rw (c .before .before .step .ensures) (omega (arith, small (c .before .before .before .args .byte)))
 
 returns : tie.Need-returns
 unfolding stepMonth
@@ -35,4 +35,4 @@ returns-2 c =
     rw (c .before .before .step .ensures, cent)
 
 pub step-month-spec : {M : Type 1} → statement M
-step-month-spec = tie.close (tie.spec step-requires add-t6 returns returns-2)
+step-month-spec = tie.close (tie.spec step-requires add-next returns returns-2)

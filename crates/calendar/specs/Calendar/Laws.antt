@@ -8,14 +8,9 @@ use native.Mathlib.Omega.{arith}
 use borrow.Author.Tests.{le-leb, leb-true, eq-eqb, eqb-true, ne-eqb, eqb-false, not-false}
 use lib.Dec.{eqb}
 use Rattle.calendar.specs.declared.Clock.{Clock}
-use Rattle.calendar.specs.Calendar.{isValid, plusOne, stepField, nextSecond, clockAfter}
+use Rattle.calendar.specs.Calendar.{Digits, isValid, plusOne, stepField, carried, stepHours, nextSecond, clockAfter}
 
 -- ---- a valid field
-
--- no digit above 9
-pub record Digits (byte : ℕ) : Type 0 where
-  pub tens : byte / 16 ≤ 9
-  pub ones : byte % 16 ≤ 9
 
 -- no digit above 9, and not outside lowest .. last
 pub record Between (lowest last byte : ℕ) : Type 0 where
@@ -95,6 +90,14 @@ step-cases lowest last byte = go (eqb byte last || not (isValid lowest last byte
 pub step-le : {lowest last : ℕ} (byte : ℕ) → last % 16 ≤ 9 → lowest ≤ last → stepField lowest last byte .byte ≤ last
 step-le {lowest} {last} byte d h =
     ⊎-elim (λ e. rw e h) (λ g. rw (g .2) (⊎-elim (λ n. omega arith) (λ n. omega arith) (plus-one byte))) (step-cases lowest last byte)
+
+-- ---- one second on
+
+-- seconds that do not carry step alone, whatever the other fields hold
+pub next-alone : {c : Clock} → Between 0x00 0x59 (c .seconds) → c .seconds < 0x59 →
+    nextSecond c ≡ record { seconds = plusOne (c .seconds); minutes = c .minutes; hours = c .hours; date = c .date; month = c .month; year = c .year }
+unfolding nextSecond carried stepHours
+next-alone b h = rw (step-on b h)
 
 -- ---- n seconds on
 

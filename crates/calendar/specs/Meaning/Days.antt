@@ -1,10 +1,10 @@
--- One day on, in plain numbers: the month's length is the year's table, and the days that are over are one more, round two
--- centuries. Assumes nothing.
+-- One day on: a valid clock stays valid at the same time of day, and its days go on by one, round the two centuries that CENT
+-- tells apart. In plain numbers first, and then field by field as the step carries. Assumes nothing.
 use mathlib.Core.Path.{_≡_, refl, _∙_}
 use mathlib.Core.Bool.{Bool, true, false}
 use mathlib.Core.Logic.{⊎-elim}
-use Prim.Native.Nat.{ℕ, zero, suc, _+_, _-_, _*_, _/_, _%_, _≤_, _<_}
-use native.Mathlib.Nat.{le-of-suc-le-suc, not-suc-le-zero, add-zero}
+use Prim.Native.Nat.{ℕ, suc, _+_, _-_, _*_, _/_, _%_, _≤_, _<_}
+use native.Mathlib.Nat.{add-zero}
 use native.Mathlib.Omega.{arith}
 use lib.Dec.{ltb, eqb, lit<, lit≤}
 use borrow.Author.Tests.{ltb-true, lt-ltb, le-ltb}
@@ -12,7 +12,7 @@ use Rattle.calendar.specs.declared.Clock.{Clock}
 use Rattle.calendar.specs.Calendar.{decimal, plusOne, carried, stepMonth, flipped, daysIn, nextDay}
 use Rattle.calendar.specs.Meaning.{sumBelow, leapDay, yearLength, monthLength, centOf, yearOf, monthsOver, daysOver, Writes, Valid}
 use Rattle.calendar.specs.Meaning.Sums.{sum-suc, sum-grows}
-use Rattle.calendar.specs.Meaning.Fields.{Spells, spelled, GoesOn, step-writes}
+use Rattle.calendar.specs.Meaning.Fields.{Spells, spelled, written, by-cent, GoesOn, step-writes}
 use Rattle.calendar.specs.Meaning.Months.{every, every-at, last-date}
 
 -- ---- years and centuries
@@ -35,15 +35,21 @@ month-long year {month} h = ltb-true 0 (monthLength year month) (every-at (λ m.
     go true e = rw e
     go false e = rw e
 
-pub days-lt : {c : Clock} → Valid c → daysOver c < 36525
-unfolding daysOver yearOf monthsOver
-days-lt {c} v =
+-- what is over of the year falls short of it, and so of the century
+pub year-lt : {c : Clock} → Valid c → sumBelow (monthLength (yearOf c)) (monthsOver c) + (decimal (c .date) - 1) < yearLength (yearOf c)
+unfolding yearOf monthsOver
+year-lt {c} v =
     let y = decimal (c .year) in
     let m = decimal (c .month % 128) - 1 in
     let months : suc m ≤ 12 = omega (arith, v .month) in
+    omega (arith, v .date, sum-suc (monthLength y) m, sum-grows (monthLength y) 12 months, year-sum y)
+
+pub days-lt : {c : Clock} → Valid c → daysOver c < 36525
+unfolding daysOver yearOf
+days-lt {c} v =
+    let y = decimal (c .year) in
     let years : suc y ≤ 100 = omega (arith, v .year) in
-    omega
-    (arith, v .date, sum-suc (monthLength y) m, sum-grows (monthLength y) 12 months, year-sum y, sum-suc yearLength y, sum-grows yearLength 100 years, century-sum)
+    omega (arith, year-lt v, sum-suc yearLength y, sum-grows yearLength 100 years, century-sum)
 
 -- ---- days in plain numbers
 
@@ -68,9 +74,7 @@ to-next-year cent year =
 
 to-next-century : (cent : ℕ) → cent ≤ 1 → daysTo 1 1 (1 - cent) 0 ≡ (daysTo (monthLength 99 11) 12 cent 99 + 1) % 73050
 unfolding sumBelow yearLength monthLength leapDay
-to-next-century zero h = refl
-to-next-century (suc zero) h = refl
-to-next-century (suc (suc cent)) h = absurd (not-suc-le-zero (le-of-suc-le-suc h))
+to-next-century = by-cent (λ cent. daysTo 1 1 (1 - cent) 0 ≡ (daysTo (monthLength 99 11) 12 cent 99 + 1) % 73050) refl refl
 
 -- ---- one day on
 
@@ -78,6 +82,7 @@ to-next-century (suc (suc cent)) h = absurd (not-suc-le-zero (le-of-suc-le-suc h
 unfoldable pub dayNumber : Clock → ℕ
 dayNumber c = daysOver c + 36525 * centOf c
 
+-- 73,050 days are two centuries
 pub record DayOn (c d : Clock) : Type 0 where
   pub valid : Valid d
   pub seconds : d .seconds ≡ c .seconds
@@ -89,37 +94,38 @@ pub record DayOn (c d : Clock) : Type 0 where
 abbrev onDay : Clock → ℕ → ℕ → ℕ → Clock
 onDay c date month year = record { seconds = c .seconds; minutes = c .minutes; hours = c .hours; date = date; month = month; year = year }
 
+-- ---- bytes of a month
+
 month-small : {month : ℕ} → Writes 1 12 month → month < 128
 unfolding decimal
 month-small w = omega (arith, w)
+
+january : Writes 1 12 0x01
+january = written tt tt tt tt
 
 -- every month has a first
 first : (year : ℕ) {month : ℕ} → Writes 1 12 month → Writes 1 (monthLength year (decimal month - 1)) 0x01
 unfolding decimal
 first year {month} m = record { digits = spelled {number = 1} tt tt tt .digits; above = lit≤ tt; below = month-long year (omega (arith, m)) }
 
-january : Writes 1 12 0x01
-unfolding decimal
-january = record { digits = spelled {number = 1} tt tt tt .digits; above = lit≤ tt; below = lit≤ tt }
-
-zeroth : Writes 0 99 0x00
-unfolding decimal
-zeroth = record { digits = spelled {number = 0} tt tt tt .digits; above = lit≤ tt; below = lit≤ tt }
-
 -- CENT above a month
-month-below : {month : ℕ} (cent : ℕ) → month < 128 → (month + 128 * cent) % 128 ≡ month
+pub month-below : {month : ℕ} (cent : ℕ) → month < 128 → (month + 128 * cent) % 128 ≡ month
 month-below cent h = omega arith
 
-cent-above : {month : ℕ} (cent : ℕ) → month < 128 → (month + 128 * cent) / 128 ≡ cent
+pub cent-above : {month : ℕ} (cent : ℕ) → month < 128 → (month + 128 * cent) / 128 ≡ cent
 cent-above cent h = omega arith
 
 cent-flipped : {month : ℕ} (cent : ℕ) → month < 128 → cent ≤ 1 → flipped (month + 128 * cent) ≡ month + 128 * (1 - cent)
 unfolding flipped
-cent-flipped {month} zero h l = rw (add-zero month, lt-ltb month 128 h)
-cent-flipped {month} (suc zero) h l = rw (le-ltb (month + 128) 128 (omega arith)) (omega arith)
-cent-flipped {month} (suc (suc cent)) h l = absurd (not-suc-le-zero (le-of-suc-le-suc l))
+cent-flipped {month} cent h =
+    by-cent (λ cent. flipped (month + 128 * cent) ≡ month + 128 * (1 - cent))
+    (rw (add-zero month, lt-ltb month 128 h)) (rw (le-ltb (month + 128) 128 (omega arith)) (omega arith))
+    cent
+
+-- ---- the step
 
 module _ (c : Clock) (v : Valid c) where
+  -- another day that there is
   module _ (date month cent year : ℕ) (d : Writes 1 (monthLength (decimal year) (decimal month - 1)) date) (m : Writes 1 12 month) (e : cent ≤ 1) (y : Writes 0 99 year) where
     number-on : dayNumber (onDay c date (month + 128 * cent) year) ≡ daysTo (decimal date) (decimal month) cent (decimal year)
     unfolding dayNumber daysOver yearOf monthsOver centOf
@@ -186,7 +192,7 @@ module _ (c : Clock) (v : Valid c) where
       unfolding centOf decimal
       on-century y =
           rw (cent-flipped {month = 0x01} (c .month / 128) (lit< tt) (v .cent))
-          (day-of 0x01 0x01 (1 - c .month / 128) 0x00 (first _ january) january (omega arith) zeroth (rw (number, d, m, y) (to-next-century (c .month / 128) (v .cent))))
+          (day-of 0x01 0x01 (1 - c .month / 128) 0x00 (first _ january) january (omega arith) (written tt tt tt tt) (rw (number, d, m, y) (to-next-century (c .month / 128) (v .cent))))
 
   pub day-on : DayOn c (nextDay c)
   unfolding nextDay carried stepMonth yearOf monthsOver

@@ -1,13 +1,14 @@
 -- One field's step in plain numbers, for any lowest and last value that are BCD. Assumes nothing.
 use mathlib.Core.Path.{_≡_, ap, _∙_}
 use mathlib.Core.Bool.{true, false}
-use lib.Dec.{T, leb, eqb, eqb→eq, lit≤}
 use mathlib.Core.Logic.{_⊎_, inl, inr, ⊎-elim}
-use Prim.Native.Nat.{ℕ, _+_, _*_, _/_, _%_, _≤_, _<_}
+use Prim.Native.Nat.{ℕ, zero, suc, _+_, _*_, _/_, _%_, _≤_, _<_}
+use native.Mathlib.Nat.{le-of-suc-le-suc, not-suc-le-zero}
 use native.Mathlib.Decide.{decLt}
 use native.Mathlib.Omega.{arith}
-use Rattle.calendar.specs.Calendar.{decimal, plusOne, stepField}
-use Rattle.calendar.specs.Calendar.Laws.{Digits, Between, plus-one, step-last, step-on}
+use lib.Dec.{T, leb, eqb, eqb→eq, lit≤}
+use Rattle.calendar.specs.Calendar.{decimal, Digits, plusOne, stepField}
+use Rattle.calendar.specs.Calendar.Laws.{Between, plus-one, step-last, step-on}
 use Rattle.calendar.specs.Meaning.{Writes}
 
 -- ---- BCD bytes in the order of their numbers
@@ -37,17 +38,29 @@ unfolding decimal
 decimal-plus-one {byte} d = ⊎-elim (λ n. rw (n .1) (omega arith)) (λ n. rw (n .1) (omega arith)) (plus-one byte)
 
 digits-plus-one : {last byte : ℕ} → Digits last → Digits byte → byte < last → Digits (plusOne byte)
-digits-plus-one {last} {byte} h d b = ⊎-elim (λ n. rw (n .1) (record { tens = omega arith; ones = omega arith })) (λ n. rw (n .1) (record { tens = omega arith; ones = omega arith })) (plus-one byte)
+digits-plus-one {last} {byte} h d b = ⊎-elim (λ n. rw (n .1) (omega arith)) (λ n. rw (n .1) (omega arith)) (plus-one byte)
+
+-- ---- bytes that are written out
 
 -- the BCD byte of a number
 pub record Spells (number byte : ℕ) : Type 0 where
   pub digits : Digits byte
   pub value : decimal byte ≡ number
 
--- of bytes that are written out it computes
 pub spelled : {number byte : ℕ} → T (leb (byte / 16) 9) → T (leb (byte % 16) 9) → T (eqb (10 * (byte / 16) + byte % 16) number) → Spells number byte
 unfolding decimal
 spelled t o e = record { digits = record { tens = lit≤ t; ones = lit≤ o }; value = eqb→eq _ _ e }
+
+pub written : {low high byte : ℕ} →
+    T (leb (byte / 16) 9) → T (leb (byte % 16) 9) → T (leb low (10 * (byte / 16) + byte % 16)) → T (leb (10 * (byte / 16) + byte % 16) high) → Writes low high byte
+unfolding decimal
+written t o a b = record { digits = record { tens = lit≤ t; ones = lit≤ o }; above = lit≤ a; below = lit≤ b }
+
+-- CENT is 0 or 1
+pub by-cent : (P : ℕ → Type 0) → P 0 → P 1 → (cent : ℕ) → cent ≤ 1 → P cent
+by-cent P p q zero h = p
+by-cent P p q (suc zero) h = q
+by-cent P p q (suc (suc cent)) h = absurd (not-suc-le-zero (le-of-suc-le-suc h))
 
 -- ---- the step of a field that writes a number from low to high
 
@@ -56,9 +69,8 @@ pub record Returns (high lowest last byte : ℕ) : Type 0 where
   pub at-last : decimal byte ≡ high
   pub stepped : stepField lowest last byte ≡ record { byte = lowest; carry = true }
 
--- below its last value, it writes one more
+-- else it writes one more
 pub record GoesOn (low high lowest last byte : ℕ) : Type 0 where
-  pub before-last : decimal byte < high
   pub stepped : stepField lowest last byte ≡ record { byte = plusOne byte; carry = false }
   pub counts : decimal (plusOne byte) ≡ decimal byte + 1
   pub writes : Writes low high (plusOne byte)
@@ -80,7 +92,6 @@ module _ {low high lowest last byte : ℕ} (l : Spells low lowest) (h : Spells h
           let counts = decimal-plus-one (w .digits) in
           let less = rw (h .value) at (decimal-lt (w .digits) before) in
           inr (record {
-            before-last = less;
             stepped = step-on writes-between before;
             counts = counts;
             writes = record { digits = digits-plus-one (h .digits) (w .digits) before; above = omega (arith, w .above, counts); below = omega (arith, less, counts) };

@@ -1,4 +1,4 @@
--- A month's last date is the month's length in the year's table, by a test over every month's byte. Assumes nothing.
+-- The date's last value is the month's length: one test over every month's byte, whatever the year. Assumes nothing.
 use mathlib.Core.Path.{_≡_, refl, ap, _∙_}
 use mathlib.Core.Bool.{Bool, true, false, not, _&&_, _||_, and-eq-true-iff}
 use Prim.Native.Nat.{ℕ, zero, suc, _-_, _/_, _%_, _<_}
@@ -14,8 +14,6 @@ use Rattle.calendar.specs.Calendar.Laws.{between-valid}
 use Rattle.calendar.specs.Meaning.{leapDay, monthLength, Writes}
 use Rattle.calendar.specs.Meaning.Fields.{Spells, spelled, writes-between}
 
--- ---- a month's length
-
 leap-day : {year : ℕ} → Writes 0 99 year → leapDay (decimal year) ≡ digit (isLeap year)
 unfolding leapDay isLeap
 leap-day {year} w = rw (between-valid {lowest = 0x00} {last = 0x99} (record { digits = w .digits; above = omega arith; below = omega (arith, w .digits) })) (number (eqb (decimal year % 4) 0))
@@ -24,7 +22,8 @@ leap-day {year} w = rw (between-valid {lowest = 0x00} {last = 0x99} (record { di
     number true = refl
     number false = refl
 
--- a test that passes at every number below n
+-- ---- a test at every number below n
+
 abbrev pub every : (ℕ → Bool) → ℕ → Bool
 every f zero = true
 every f (suc n) = f n && every f n
@@ -39,7 +38,9 @@ every-at f (suc n) e k h =
     go here below (yes same) = ap f same ∙ here
     go here below (no other) = below (omega (arith, h, other))
 
--- the month's last date is two digits, and writes the month's length
+-- ---- the last date
+
+-- of a valid month it is two digits, and writes the month's length
 right : ℕ → ℕ → Bool
 right year month =
     not (isValid 0x01 0x12 month)

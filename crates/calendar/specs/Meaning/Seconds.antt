@@ -1,4 +1,5 @@
--- One second on, in plain numbers. Assumes nothing.
+-- One second on: a valid clock stays valid, and its seconds go on by one, round the two centuries that CENT tells apart, field
+-- by field as the step carries. Assumes nothing.
 use mathlib.Core.Path.{_≡_, refl}
 use mathlib.Core.Logic.{⊎-elim}
 use Prim.Native.Nat.{ℕ, _+_, _*_, _%_, _<_}
@@ -6,7 +7,7 @@ use native.Mathlib.Omega.{arith}
 use Rattle.calendar.specs.declared.Clock.{Clock}
 use Rattle.calendar.specs.Calendar.{decimal, plusOne, carried, stepHours, nextDay, nextSecond}
 use Rattle.calendar.specs.Meaning.{century, moment, centOf, yearOf, monthsOver, daysOver, secondsOf, Writes, Valid}
-use Rattle.calendar.specs.Meaning.Fields.{spelled, step-writes}
+use Rattle.calendar.specs.Meaning.Fields.{spelled, written, step-writes}
 use Rattle.calendar.specs.Meaning.Days.{days-lt, dayNumber, day-on}
 
 pub record SecondOn (c d : Clock) : Type 0 where
@@ -33,10 +34,6 @@ none : decimal 0x00 ≡ 0
 unfolding decimal
 none = refl
 
-zeroth : {last : ℕ} → Writes 0 last 0x00
-unfolding decimal
-zeroth = record { digits = spelled {number = 0} tt tt tt .digits; above = omega arith; below = omega arith }
-
 day-lt : {c : Clock} → Valid c → dayNumber c < 73050
 unfolding dayNumber
 day-lt v = omega (arith, days-lt v, v .cent)
@@ -59,7 +56,7 @@ module _ (c : Clock) (v : Valid c) where
   midnight-on : decimal (c .seconds) ≡ 59 → decimal (c .minutes) ≡ 59 → decimal (c .hours) ≡ 23 → SecondOn c (nextDay (atTime c 0x00 0x00 0x00))
   unfolding dayNumber daysOver yearOf monthsOver centOf
   midnight-on s m h =
-      let d = day-on (atTime c 0x00 0x00 0x00) (valid-at zeroth zeroth zeroth) in
+      let d = day-on (atTime c 0x00 0x00 0x00) (valid-at (written tt tt tt tt) (written tt tt tt tt) (written tt tt tt tt)) in
       record { valid = d .valid; counts = rw (moment-at (nextDay (atTime c 0x00 0x00 0x00)), d .seconds, d .minutes, d .hours, d .counts, moment-at c, s, m, h, none) (midnight (dayNumber c)) }
 
   pub second-on : SecondOn c (nextSecond c)
@@ -71,9 +68,9 @@ module _ (c : Clock) (v : Valid c) where
       (λ m. rw (m .stepped)
       (⊎-elim
       (λ h. rw (h .stepped) (midnight-on (s .at-last) (m .at-last) (h .at-last)))
-      (λ g. rw (g .stepped) (time-on 0x00 0x00 (plusOne (c .hours)) zeroth zeroth (g .writes) (omega (arith, none, s .at-last, m .at-last, g .counts, moment-at c))))
+      (λ g. rw (g .stepped) (time-on 0x00 0x00 (plusOne (c .hours)) (written tt tt tt tt) (written tt tt tt tt) (g .writes) (omega (arith, none, s .at-last, m .at-last, g .counts, moment-at c))))
       (step-writes {lowest = 0x00} {last = 0x23} (spelled tt tt tt) (spelled tt tt tt) (v .hours))))
-      (λ g. rw (g .stepped) (time-on 0x00 (plusOne (c .minutes)) (c .hours) zeroth (g .writes) (v .hours) (omega (arith, none, s .at-last, g .counts, moment-at c))))
+      (λ g. rw (g .stepped) (time-on 0x00 (plusOne (c .minutes)) (c .hours) (written tt tt tt tt) (g .writes) (v .hours) (omega (arith, none, s .at-last, g .counts, moment-at c))))
       (step-writes {lowest = 0x00} {last = 0x59} (spelled tt tt tt) (spelled tt tt tt) (v .minutes))))
       (λ g. rw (g .stepped) (time-on (plusOne (c .seconds)) (c .minutes) (c .hours) (g .writes) (v .minutes) (v .hours) (omega (arith, g .counts, moment-at c))))
       (step-writes {lowest = 0x00} {last = 0x59} (spelled tt tt tt) (spelled tt tt tt) (v .seconds))

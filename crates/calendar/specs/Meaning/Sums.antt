@@ -1,5 +1,5 @@
--- Running sums: they grow, and a sum and a part of the next term tell how many terms it has. Assumes nothing.
-use mathlib.Core.Path.{_≡_, refl, sym}
+-- Running sums, for any terms: they grow, and a sum with a part of its next term is told apart from every other. Assumes nothing.
+use mathlib.Core.Path.{_≡_, refl, sym, ap}
 use Prim.Native.Nat.{ℕ, suc, _+_, _≤_, _<_}
 use native.Mathlib.Nat.{le-refl}
 use native.Mathlib.Decide.{le-ind}
@@ -18,5 +18,8 @@ module _ (f : ℕ → ℕ) where
   short : (n m a b : ℕ) → a < f n → sumBelow f n + a ≡ sumBelow f m + b → n < m → ⊥
   short n m a b h e l = omega (arith, sum-suc n, sum-grows m l)
 
-  pub sum-terms : (n m a b : ℕ) → a < f n → b < f m → sumBelow f n + a ≡ sumBelow f m + b → n ≡ m
-  sum-terms n m a b h k e = omega (arith, short n m a b h e, short m n b a k (sym e))
+  -- so the sum and the part tell how many terms there are
+  pub sum-terms : (n m a b : ℕ) → a < f n → b < f m → sumBelow f n + a ≡ sumBelow f m + b → (n ≡ m) × (a ≡ b)
+  sum-terms n m a b h k e =
+      let same : n ≡ m = omega (arith, short n m a b h e, short m n b a k (sym e)) in
+      (same, omega (arith, e, ap (sumBelow f) same))

@@ -17,7 +17,11 @@ flag-requires-2 c κs = search needs
 
 returns-2 : tie.Need-returns-2
 unfolding alarmed
-returns-2 c = simp (sym (c .before .before .before .flag .ensures) ∙ c .before .before .if1 .left, sym (c .before .flag2 .ensures) ∙ c .if2 .taken)
+returns-2 c =
+    simp (
+      sym (c .before .before .before .flag .ensures) ∙ c .before .before .if1 .left,
+      sym (c .before .flag2 .ensures) ∙ c .if2 .taken,
+    )
 
 flag-requires-3 : tie.Need-flag-requires-3
 flag-requires-3 c κs = search needs
@@ -25,8 +29,11 @@ flag-requires-3 c κs = search needs
 returns-3 : tie.Need-returns-3
 unfolding alarmed
 returns-3 c =
-    simp
-    (sym (c .before .before .before .before .flag .ensures) ∙ c .before .before .before .if1 .left, sym (c .before .before .flag2 .ensures) ∙ c .before .if2 .left, c .flag3 .ensures)
+    simp (
+      sym (c .before .before .before .before .flag .ensures) ∙ c .before .before .before .if1 .left,
+      sym (c .before .before .flag2 .ensures) ∙ c .before .if2 .left,
+      c .flag3 .ensures,
+    )
 
 pub alarm-spec : {M : Type 1} → statement M
 alarm-spec =

@@ -1,8 +1,8 @@
 -- `image::may_control` meets its contract: the control byte says whether the field is compared. Assumes nothing.
 use mathlib.Core.Path.{sym, _∙_}
 use borrow.Author.Tests.{eq-eqb, ne-eqb}
-use Rattle.image.specs.Answers.{checked, mayControl}
 use borrow.Author.Needs.{needs}
+use Rattle.image.specs.Answers.{checked, mayControl}
 use Rattle.image.proofs.may_control.Statement.{statement}
 use Rattle.image.proofs.may_control.Tie as tie
 

@@ -1,8 +1,8 @@
 -- `image::may_copy` meets its contract, by the address and then by the mission. Assumes nothing.
 use mathlib.Core.Path.{sym, _∙_}
 use borrow.Author.Tests.{lt-ltb, le-ltb}
-use Rattle.image.specs.Answers.{mayCopy}
 use borrow.Author.Needs.{needs}
+use Rattle.image.specs.Answers.{mayCopy}
 use Rattle.image.proofs.may_copy.Statement.{statement}
 use Rattle.image.proofs.may_copy.Tie as tie
 
@@ -18,14 +18,25 @@ flag-requires c κs = search needs
 
 returns-2 : tie.Need-returns-2
 unfolding mayCopy
-returns-2 c = simp (le-ltb _ _ (c .before .before .before .if1 .left), lt-ltb _ _ (c .before .before .if2 .taken), sym (c .before .flag .ensures) ∙ c .if3 .taken)
+returns-2 c =
+    simp (
+      le-ltb _ _ (c .before .before .before .if1 .left),
+      lt-ltb _ _ (c .before .before .if2 .taken),
+      sym (c .before .flag .ensures) ∙ c .if3 .taken,
+    )
 
 may-control-requires-2 : tie.Need-may-control-requires-2
 may-control-requires-2 c κs = search needs
 
 returns-3 : tie.Need-returns-3
 unfolding mayCopy
-returns-3 c = simp (le-ltb _ _ (c .before .before .before .before .if1 .left), lt-ltb _ _ (c .before .before .before .if2 .taken), sym (c .before .before .flag .ensures) ∙ c .before .if3 .left, c .may-control2 .ensures)
+returns-3 c =
+    simp (
+      le-ltb _ _ (c .before .before .before .before .if1 .left),
+      lt-ltb _ _ (c .before .before .before .if2 .taken),
+      sym (c .before .before .flag .ensures) ∙ c .before .if3 .left,
+      c .may-control2 .ensures,
+    )
 
 returns-4 : tie.Need-returns-4
 unfolding mayCopy

@@ -1,7 +1,7 @@
 -- `image::may_read` meets its contract: what may control may read, and so may the read password. Assumes nothing.
 use mathlib.Core.Path.{sym, _∙_}
-use Rattle.image.specs.Answers.{mayRead}
 use borrow.Author.Needs.{needs}
+use Rattle.image.specs.Answers.{mayRead}
 use Rattle.image.proofs.may_read.Statement.{statement}
 use Rattle.image.proofs.may_read.Tie as tie
 

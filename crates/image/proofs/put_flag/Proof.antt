@@ -3,11 +3,11 @@ use mathlib.Core.Path.{_≡_, _∙_}
 use Prim.Native.Nat.{ℕ, _-_, _*_, _%_, _^_, _<_}
 use native.Mathlib.Nat.{one-mul, zero-mul, mod-eq-of-lt}
 use borrow.Author.Tests.{lt-ltb, le-ltb}
+use borrow.Author.Needs.{needs}
 use lib.Bits.{bitAnd, or-zero-r}
 use lib.ListN.{getD}
 use lib.Pow.{pow-lt}
 use Rattle.image.specs.Fields.{withBit, putFlag}
-use borrow.Author.Needs.{needs}
 use Rattle.image.proofs.put_flag.Statement.{statement}
 use Rattle.image.proofs.put_flag.Tie as tie
 
@@ -36,9 +36,16 @@ same-length c = search needs
 returns : tie.Need-returns
 unfolding putFlag withBit
 returns c =
-    let a = c .before .before .before .before .before .before .before .before .before .args in
+    let below = c .before .before .before .before .before .before .before in
+    let a = below .before .before .args in
     c .before .before .poke .ensures
-    ∙ rw (c .before .before .before .before .before .peek .ensures, lt-ltb _ _ (c .before .before .before .before .before .before .before .if1 .taken), one-bit (a .bit) (c .before .before .before .before .before .before .before .if1 .taken), c .before .before .before .before .if2 .taken, one-mul (2 ^ a .bit))
+    ∙ rw (
+      c .before .before .before .before .before .peek .ensures,
+      lt-ltb _ _ (below .if1 .taken),
+      one-bit (a .bit) (below .if1 .taken),
+      c .before .before .before .before .if2 .taken,
+      one-mul (2 ^ a .bit),
+    )
 
 same-length-2 : tie.Need-same-length-2
 same-length-2 c = search needs
@@ -46,9 +53,17 @@ same-length-2 c = search needs
 returns-2 : tie.Need-returns-2
 unfolding putFlag withBit
 returns-2 c =
-    let a = c .before .before .before .before .before .before .before .before .before .args in
+    let below = c .before .before .before .before .before .before .before in
+    let a = below .before .before .args in
     c .before .before .poke2 .ensures
-    ∙ rw (c .before .before .before .before .before .peek .ensures, lt-ltb _ _ (c .before .before .before .before .before .before .before .if1 .taken), one-bit (a .bit) (c .before .before .before .before .before .before .before .if1 .taken), c .before .before .before .before .if2 .left, zero-mul (2 ^ a .bit), or-zero-r (bitAnd (getD (a .image .now) (a .at) 0) (255 - 2 ^ a .bit)))
+    ∙ rw (
+      c .before .before .before .before .before .peek .ensures,
+      lt-ltb _ _ (below .if1 .taken),
+      one-bit (a .bit) (below .if1 .taken),
+      c .before .before .before .before .if2 .left,
+      zero-mul (2 ^ a .bit),
+      or-zero-r (bitAnd (getD (a .image .now) (a .at) 0) (255 - 2 ^ a .bit)),
+    )
 
 returns-3 : tie.Need-returns-3
 unfolding putFlag

@@ -56,8 +56,12 @@ loop-again : tie.Need-loop-again Inv-loop μ-loop
 loop-again c =
     let a = c .before .before .before .before .before .before .before .before .before .args in
     let l = c .before .before .before .before .before .loop in
-    let n = c .before .before .before .before .before .before .up-to-8 .result in
-    (omega arith, c .before .before .poke .kept .0 ∙ l .inv .1, rw (c .before .before .poke .ensures) (put (l .image) (a .at) n (l .i) (l .rest) (c .before .before .before .before .loop-test .taken) ∙ l .inv .2))
+    let n = c .before .before .before .before .before .before .up-to-8 .result in (
+      omega arith,
+      c .before .before .poke .kept .0 ∙ l .inv .1,
+      rw (c .before .before .poke .ensures)
+          (put (l .image) (a .at) n (l .i) (l .rest) (c .before .before .before .before .loop-test .taken) ∙ l .inv .2),
+    )
 
 same-length : tie.Need-same-length Inv-loop μ-loop
 same-length c = c .before .loop .inv .1

@@ -1,8 +1,10 @@
 -- `image::register` meets its contract: the code's table of named bits is the definition's, and past it there are none.
 -- Assumes nothing.
+use mathlib.Core.Path.{ap}
+use Prim.Native.Nat.{ℕ}
 use borrow.Author.Needs.{needs}
-use lib.Bits.{and-zero-r}
-use lib.ListN.{List·getD-eq-default}
+use lib.Bits.{bitAnd, and-zero-r}
+use lib.ListN.{getD, List·getD-eq-default}
 use Rattle.image.specs.Map.{byteIn}
 use Rattle.image.specs.Tables.{named, registerAt}
 use Rattle.image.specs.declared.Region.the-variants.{Registers}
@@ -20,7 +22,7 @@ array-read-result c = search needs
 
 returns : tie.Need-returns
 unfolding registerAt named
-returns c = rw (c .peek .ensures)
+returns c = ap (λ (b : ℕ). bitAnd b (getD named (c .before .before .before .args .offset) 0)) (c .peek .ensures)
 
 returns-2 : tie.Need-returns-2
 unfolding registerAt named

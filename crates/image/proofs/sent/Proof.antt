@@ -4,9 +4,9 @@ use mathlib.Core.Path.{sym, _∙_}
 use borrow.Author.Needs.{needs}
 use borrow.Author.Tests.{eq-eqb, ne-eqb}
 use Rattle.image.specs.Map.Laws.{register-offset-lt}
-use Rattle.image.specs.Sent.{sentRegister, sentFrom}
+use Rattle.image.specs.Sent.{sentByte, sentIn}
 use Rattle.image.specs.Sent.Laws.{sent-in}
-use Rattle.image.specs.Tables.{alwaysOne}
+use Rattle.image.specs.Tables.{alwaysOne, registerAt}
 use Rattle.image.proofs.sent.Statement.{statement}
 use Rattle.image.proofs.sent.Tie as tie
 
@@ -29,18 +29,19 @@ cast-o : tie.Need-cast-o
 cast-o c = search needs
 
 returns : tie.Need-returns
-unfolding sentFrom sentRegister
+unfolding sentIn sentByte
 returns c =
     let a = c .before .before .before .before .before .before .args in
-    sym (sent-in (a .image .now) (a .code) (a .address) (sym (c .before .before .before .before .region-of .ensures) ∙ c .before .before .offset2 .given .1) ∙ rw (eq-eqb _ _ (c .if1 .taken)))
+    let there = sym (c .before .before .before .before .region-of .ensures) ∙ c .before .before .offset2 .given .1 in
+    sym (sent-in (a .image .now) (a .code) (a .address) there ∙ rw (eq-eqb _ _ (c .if1 .taken)))
 
 register-requires : tie.Need-register-requires
 register-requires c κs = search needs
 
 array-read-result : tie.Need-array-read-result
 array-read-result c =
-    let a = c .before .before .before .before .before .before .before .args in
-    register-offset-lt (a .address) (sym (c .before .before .before .before .before .region-of .ensures) ∙ c .before .before .before .offset2 .given .1)
+    register-offset-lt _
+    (sym (c .before .before .before .before .before .region-of .ensures) ∙ c .before .before .before .offset2 .given .1)
 
 enum-known-offset-3 : tie.Need-enum-known-offset-3
 enum-known-offset-3 c = search needs
@@ -70,38 +71,39 @@ peek-requires-3 : tie.Need-peek-requires-3
 peek-requires-3 c κs = search needs
 
 returns-2 : tie.Need-returns-2
-unfolding sentFrom
+unfolding sentIn sentByte
 returns-2 c =
     let a = c .before .before .before .before .before .before .args in
-    c .peek .ensures
-    ∙ sym (sent-in (a .image .now) (a .code) (a .address) (sym (c .before .before .before .before .region-of .ensures) ∙ c .before .before .offset .given .1))
+    let there = sym (c .before .before .before .before .region-of .ensures) ∙ c .before .before .offset .given .1 in
+    c .peek .ensures ∙ sym (sent-in (a .image .now) (a .code) (a .address) there)
 
 returns-3 : tie.Need-returns-3
-unfolding sentFrom sentRegister alwaysOne
+unfolding sentIn sentByte registerAt alwaysOne
 returns-3 c =
     let a = c .before .before .before .before .before .before .before .args in
-    sym (sent-in (a .image .now) (a .code) (a .address) (sym (c .before .before .before .before .before .region-of .ensures) ∙ c .before .before .before .offset2 .given .1)
-    ∙ rw (ne-eqb _ _ (c .before .if1 .left), c .register .ensures))
+    let there = sym (c .before .before .before .before .before .region-of .ensures) ∙ c .before .before .before .offset2 .given .1 in
+    sym (sent-in (a .image .now) (a .code) (a .address) there ∙ rw (ne-eqb _ _ (c .before .if1 .left), c .register .ensures))
 
 returns-4 : tie.Need-returns-4
-unfolding sentFrom
+unfolding sentIn sentByte
 returns-4 c =
     let a = c .before .before .before .before .before .before .args in
-    c .peek2 .ensures
-    ∙ sym (sent-in (a .image .now) (a .code) (a .address) (sym (c .before .before .before .before .region-of .ensures) ∙ c .before .before .offset3 .given .1))
+    let there = sym (c .before .before .before .before .region-of .ensures) ∙ c .before .before .offset3 .given .1 in
+    c .peek2 .ensures ∙ sym (sent-in (a .image .now) (a .code) (a .address) there)
 
 returns-5 : tie.Need-returns-5
-unfolding sentFrom
+unfolding sentIn sentByte
 returns-5 c =
     let a = c .before .before .before .before .args in
-    sym (sent-in (a .image .now) (a .code) (a .address) (sym (c .before .before .region-of .ensures) ∙ c .enum-told .given .1))
+    let there = sym (c .before .before .region-of .ensures) ∙ c .enum-told .given .1 in
+    sym (sent-in (a .image .now) (a .code) (a .address) there)
 
 returns-6 : tie.Need-returns-6
-unfolding sentFrom
+unfolding sentIn sentByte
 returns-6 c =
     let a = c .before .before .before .before .before .before .args in
-    c .peek3 .ensures
-    ∙ sym (sent-in (a .image .now) (a .code) (a .address) (sym (c .before .before .before .before .region-of .ensures) ∙ c .before .before .offset4 .given .1))
+    let there = sym (c .before .before .before .before .region-of .ensures) ∙ c .before .before .offset4 .given .1 in
+    c .peek3 .ensures ∙ sym (sent-in (a .image .now) (a .code) (a .address) there)
 
 pub sent-spec : {M : Type 1} → statement M
 sent-spec =

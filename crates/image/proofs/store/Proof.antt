@@ -2,12 +2,11 @@
 -- there. Assumes nothing.
 use mathlib.Core.Path.{sym, _∙_}
 use borrow.Author.Needs.{needs}
-use native.Mathlib.Omega.{arith}
+use lib.Seq.{set-getD}
 use Rattle.image.specs.Map.Laws.{register-offset-lt}
-use Rattle.image.specs.Stored.{blend, storedIn}
+use Rattle.image.specs.Stored.{storedByte, storedIn}
 use Rattle.image.specs.Stored.Laws.{stored-in}
 use Rattle.image.specs.Tables.{writable}
-use Rattle.image.specs.Tables.Laws.{writable-lt}
 use Rattle.image.proofs.store.Statement.{statement}
 use Rattle.image.proofs.store.Tie as tie
 
@@ -29,8 +28,8 @@ enum-known-offset-2 c = search needs
 cast-o : tie.Need-cast-o
 cast-o c = search needs
 
-array-read-mask : tie.Need-array-read-mask
-array-read-mask c = register-offset-lt _ (sym (c .before .before .before .region-of .ensures) ∙ c .before .offset2 .given .1)
+array-read-blended : tie.Need-array-read-blended
+array-read-blended c = register-offset-lt _ (sym (c .before .before .before .region-of .ensures) ∙ c .before .offset2 .given .1)
 
 add-peek : tie.Need-add-peek
 add-peek c = search needs
@@ -38,12 +37,11 @@ add-peek c = search needs
 peek-requires : tie.Need-peek-requires
 peek-requires c κs = search needs
 
+blended-requires : tie.Need-blended-requires
+blended-requires c κs = search needs
+
 add-poke : tie.Need-add-poke
 add-poke c = search needs
-
-sub-poke : tie.Need-sub-poke
-unfolding writable
-sub-poke c = omega (arith, writable-lt (c .before .before .before .before .offset2 .given .0 .0))
 
 poke-requires-2 : tie.Need-poke-requires-2
 poke-requires-2 c κs = search needs
@@ -70,40 +68,53 @@ same-length : tie.Need-same-length
 same-length c = search needs
 
 returns : tie.Need-returns
-unfolding storedIn
+unfolding storedIn storedByte
 returns c =
     let a = c .before .before .before .before .before .before .before .before .before .args in
-    c .before .before .poke .ensures ∙ sym (stored-in (a .image .now) (a .address) (a .b) (sym (c .before .before .before .before .before .before .before .region-of .ensures) ∙ c .before .before .before .before .before .offset .given .1))
+    let there =
+    sym (c .before .before .before .before .before .before .before .region-of .ensures)
+    ∙ c .before .before .before .before .before .offset .given .1 in
+    c .before .before .poke .ensures ∙ sym (stored-in (a .image .now) (a .address) (a .b) there)
 
 same-length-2 : tie.Need-same-length-2
 same-length-2 c = search needs
 
 returns-2 : tie.Need-returns-2
-unfolding storedIn blend writable
+unfolding storedIn storedByte writable
 returns-2 c =
-    let a = c .before .before .before .before .before .before .before .before .before .before .before .args in
-    c .before .before .poke2 .ensures ∙ rw (c .before .before .before .before .peek .ensures) (sym (stored-in (a .image .now) (a .address) (a .b) (sym (c .before .before .before .before .before .before .before .before .before .region-of .ensures) ∙ c .before .before .before .before .before .before .before .offset2 .given .1)))
+    let a = c .before .before .before .before .before .before .before .before .before .before .before .before .args in
+    let there =
+    sym (c .before .before .before .before .before .before .before .before .before .before .region-of .ensures)
+    ∙ c .before .before .before .before .before .before .before .before .offset2 .given .1 in
+    c .before .before .poke2 .ensures
+    ∙ rw (c .before .before .before .before .blended .ensures, c .before .before .before .before .before .peek .ensures)
+    (sym (stored-in (a .image .now) (a .address) (a .b) there))
 
 same-length-3 : tie.Need-same-length-3
 same-length-3 c = search needs
 
 returns-3 : tie.Need-returns-3
-unfolding storedIn
+unfolding storedIn storedByte
 returns-3 c =
     let a = c .before .before .before .before .before .before .before .before .before .args in
-    c .before .before .poke3 .ensures ∙ sym (stored-in (a .image .now) (a .address) (a .b) (sym (c .before .before .before .before .before .before .before .region-of .ensures) ∙ c .before .before .before .before .before .offset3 .given .1))
+    let there =
+    sym (c .before .before .before .before .before .before .before .region-of .ensures)
+    ∙ c .before .before .before .before .before .offset3 .given .1 in
+    c .before .before .poke3 .ensures ∙ sym (stored-in (a .image .now) (a .address) (a .b) there)
 
 returns-4 : tie.Need-returns-4
-unfolding storedIn
+unfolding storedIn storedByte
 returns-4 c =
     let a = c .before .before .before .before .args in
-    sym (stored-in (a .image .now) (a .address) (a .b) (sym (c .before .before .region-of .ensures) ∙ c .enum-told .given .1))
+    let there = sym (c .before .before .region-of .ensures) ∙ c .enum-told .given .1 in
+    sym (stored-in (a .image .now) (a .address) (a .b) there ∙ set-getD (a .image .now) _ 0)
 
 returns-5 : tie.Need-returns-5
-unfolding storedIn
+unfolding storedIn storedByte
 returns-5 c =
     let a = c .before .before .before .before .args in
-    sym (stored-in (a .image .now) (a .address) (a .b) (sym (c .before .before .region-of .ensures) ∙ c .enum-told2 .given .1))
+    let there = sym (c .before .before .region-of .ensures) ∙ c .enum-told2 .given .1 in
+    sym (stored-in (a .image .now) (a .address) (a .b) there ∙ set-getD (a .image .now) _ 0)
 
 pub store-spec : {M : Type 1} → statement M
 store-spec =
@@ -115,11 +126,11 @@ store-spec =
     poke-requires
     enum-known-offset-2
     cast-o
-    array-read-mask
+    array-read-blended
     add-peek
     peek-requires
+    blended-requires
     add-poke
-    sub-poke
     poke-requires-2
     enum-known-offset-3
     cast-poke-2

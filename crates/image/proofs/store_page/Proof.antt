@@ -7,9 +7,9 @@ use native.Mathlib.Omega.{arith}
 use native.Mathlib.Numerals.{add-one}
 use borrow.Author.Needs.{needs}
 use borrow.Kind.Array.{good-length, eInt}
-use mir.Syntax.{w8}
 use lib.ListN.{length, getD, drop, drop-of-length-le}
 use lib.Seq.{drop-cons}
+use mir.Syntax.{w8}
 use Rattle.image.specs.Stored.{storedAt, storedRun, storedPage}
 use Rattle.image.proofs.store_page.Statement.{statement}
 use Rattle.image.proofs.store_page.Tie as tie
@@ -59,10 +59,15 @@ loop-less c = omega arith
 
 loop-again : tie.Need-loop-again Inv-loop μ-loop
 loop-again c =
-    let a = c .before .before .before .before .before .before .before .args in
+    let start = c .before .before .before .before .before .before .before in
+    let a = start .args in
     let l = c .before .before .before .before .before .loop in
-    let whole : length (a .t2) ≡ 32 = good-length (eInt w8) 32 (a .t2) _ (c .before .before .before .before .before .before .before .good .1 .0) in
-    (omega arith, c .before .before .store .kept .0 ∙ l .inv .1, rw (c .before .before .store .ensures) (next (l .image) (a .t2) (a .address - a .address % 32) (l .i) (omega arith) ∙ l .inv .2))
+    let whole : length (a .t2) ≡ 32 = good-length (eInt w8) 32 (a .t2) _ (start .good .1 .0) in (
+      omega arith,
+      c .before .before .store .kept .0 ∙ l .inv .1,
+      rw (c .before .before .store .ensures)
+          (next (l .image) (a .t2) (a .address - a .address % 32) (l .i) (omega arith) ∙ l .inv .2),
+    )
 
 same-length : tie.Need-same-length Inv-loop μ-loop
 same-length c = c .before .loop .inv .1

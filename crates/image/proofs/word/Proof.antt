@@ -40,7 +40,8 @@ small c =
     let i = c .before .loop .i in
     let n = c .before .before .up-to-8 .result in
     lt-of-lt-of-le
-    (rw (c .before .loop .inv .1) (word-lt (a .image .now) (a .at + i) (n - i) (λ k. c .before .before .before .before .shared-slice-known .given k .fits)))
+    (rw (c .before .loop .inv .1)
+    (word-lt (a .image .now) (a .at + i) (n - i) (λ k. c .before .before .before .before .shared-slice-known .given k .fits)))
     (pow-le-pow-right {n = 256} (omega arith) {i = n - i} {j = 7} (omega (arith, c .before .before .up-to-8 .ensures)))
 
 loop-holds : tie.Need-loop-holds Inv-loop μ-loop
@@ -73,11 +74,16 @@ loop-again c =
     let a = c .before .before .before .before .before .before .args in
     let i = c .before .before .loop .i in
     let n = c .before .before .before .up-to-8 .result in
-    let le : i ≤ n = c .before .before .loop .inv .0 in
-    (omega arith, rw (c .before .before .loop .inv .1, c .peek .ensures) (gathered (a .image .now) (a .at) n i (c .before .loop-test .taken) le))
+    let le : i ≤ n = c .before .before .loop .inv .0 in (
+      omega arith,
+      rw (c .before .before .loop .inv .1, c .peek .ensures)
+          (gathered (a .image .now) (a .at) n i (c .before .loop-test .taken) le),
+    )
 
 returns-2 : tie.Need-returns-2 Inv-loop μ-loop
-returns-2 c = let i = c .before .loop .i in let done : i ≡ 0 = omega arith in c .before .loop .inv .1 ∙ rw (done, c .before .before .up-to-8 .ensures, add-zero, sub-zero)
+returns-2 c =
+    let done : c .before .loop .i ≡ 0 = omega arith in
+    c .before .loop .inv .1 ∙ rw (done, c .before .before .up-to-8 .ensures, add-zero, sub-zero)
 
 pub word-spec : {M : Type 1} → statement M
 word-spec =

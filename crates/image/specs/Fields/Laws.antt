@@ -12,10 +12,11 @@ use borrow.Author.Tests.{lt-ltb, ltb-true, eq-eqb, ne-eqb}
 use lib.Arith.{mod-mul}
 use lib.Bits.{bitAnd, bitOr, and-shr, or-shr, and-mod, or-mod, and-le-r, or-lt}
 use lib.Dec.{T, T-not, leb→le, le→leb, leb, ltb, eqb, eqb-refl, ltb→lt}
-use lib.ListN.{length, getD, set, length-set, List·getD-eq-default}
+use lib.ListN.{length, getD, set, replicate, length-set, length-replicate, getD-replicate, List·getD-eq-default}
 use lib.Pow.{pow-lt}
 use lib.Seq.{getD-set-same, getD-set-other, set-out}
 use Rattle.bits.specs.Bits.{digit, bitOf}
+use Rattle.bits.specs.Bits.Laws.{bit-past}
 use Rattle.bits.specs.Choose.{if_then_else_}
 use Rattle.image.specs.Each.{eachPair, eachPair-at, beq-eq}
 use Rattle.image.specs.Fields.{wordAt, putWord, flagAt, withBit, putFlag, apart}
@@ -133,12 +134,14 @@ word-putWord image at (suc n) v h =
     rw (head, tail, pow-suc 256 n) (omega (arith, mod-mul v {m = 256 ^ n} {c = 256} (one-le-pow n 256 (omega arith)) (omega arith)))
 
 -- a put leaves every word and every flag apart from it
-pub word-putWord-other : (image : List ℕ) (at m v at' n : ℕ) → T (apart at m at' n) → wordAt (putWord image at m v) at' n ≡ wordAt image at' n
+pub word-putWord-other : (image : List ℕ) (at m v at' n : ℕ) → T (apart at m at' n)
+    → wordAt (putWord image at m v) at' n ≡ wordAt image at' n
 word-putWord-other image at m v at' n t =
     word-same (putWord image at m v) image at' n
     (λ k lo hi. outside image at m v k (⊎-elim (λ l. inl (omega arith)) (λ l. inr (omega arith)) (apart-cases at m at' n t)))
 
-pub flag-putWord-other : (image : List ℕ) (at n v at' i : ℕ) → T (apart at n at' 1) → flagAt (putWord image at n v) at' i ≡ flagAt image at' i
+pub flag-putWord-other : (image : List ℕ) (at n v at' i : ℕ) → T (apart at n at' 1)
+    → flagAt (putWord image at n v) at' i ≡ flagAt image at' i
 unfolding flagAt
 flag-putWord-other image at n v at' i t = rw (byte-putWord-other image at n v at' t)
 
@@ -228,12 +231,14 @@ elsewhere image at i b k ne = by-test (ltb i 8)
     by-test false = refl
 
 -- it leaves every other byte
-pub byte-putFlag-other : (image : List ℕ) (at i : ℕ) (b : Bool) (k : ℕ) → T (apart at 1 k 1) → getD (putFlag image at i b) k 0 ≡ getD image k 0
+pub byte-putFlag-other : (image : List ℕ) (at i : ℕ) (b : Bool) (k : ℕ) → T (apart at 1 k 1)
+    → getD (putFlag image at i b) k 0 ≡ getD image k 0
 byte-putFlag-other image at i b k t =
     elsewhere image at i b k (λ e. ⊎-elim (λ l. omega arith) (λ l. omega arith) (apart-cases at 1 k 1 t))
 
 -- it leaves every word that its byte is no part of
-pub word-putFlag-other : (image : List ℕ) (at i : ℕ) (b : Bool) (at' n : ℕ) → T (apart at 1 at' n) → wordAt (putFlag image at i b) at' n ≡ wordAt image at' n
+pub word-putFlag-other : (image : List ℕ) (at i : ℕ) (b : Bool) (at' n : ℕ) → T (apart at 1 at' n)
+    → wordAt (putFlag image at i b) at' n ≡ wordAt image at' n
 word-putFlag-other image at i b at' n t =
     word-same (putFlag image at i b) image at' n
     (λ k lo hi. elsewhere image at i b k (λ e. ⊎-elim (λ l. omega arith) (λ l. omega arith) (apart-cases at 1 at' n t)))
@@ -251,7 +256,8 @@ flag-putFlag image at i b h t =
     )
 
 -- the other flags of the same byte
-beside : (image : List ℕ) (at i : ℕ) (b : Bool) (j : ℕ) → i < 8 → j < 8 → (i ≡ j → ⊥) → flagAt (putFlag image at i b) at j ≡ flagAt image at j
+beside : (image : List ℕ) (at i : ℕ) (b : Bool) (j : ℕ) → i < 8 → j < 8 → (i ≡ j → ⊥)
+    → flagAt (putFlag image at i b) at j ≡ flagAt image at j
 unfolding flagAt
 beside image at i b j hi hj ne =
     dite (decLt at (length image))
@@ -265,7 +271,8 @@ beside image at i b j hi hj ne =
     (λ past. rw (putFlag-set image at i b hi, set-out image at (withBit (getD image at 0) i b) (omega arith)))
 
 -- a put leaves every other flag, of another byte or of its own
-pub flag-putFlag-other : (image : List ℕ) (at i : ℕ) (b : Bool) (at' j : ℕ) → T (ltb i 8) → T (ltb j 8) → T (apart at 1 at' 1 || not (eqb i j))
+pub flag-putFlag-other : (image : List ℕ) (at i : ℕ) (b : Bool) (at' j : ℕ) → T (ltb i 8) → T (ltb j 8)
+    → T (apart at 1 at' 1 || not (eqb i j))
     → flagAt (putFlag image at i b) at' j ≡ flagAt image at' j
 unfolding flagAt
 flag-putFlag-other image at i b at' j ti tj t =
@@ -276,3 +283,22 @@ flag-putFlag-other image at i b at' j ti tj t =
     other : at' ≡ at → i ≡ j → T (apart at 1 at' 1) ⊎ T (not (eqb i j)) → ⊥
     other e same (inl l) = ⊎-elim (λ m. omega arith) (λ m. omega arith) (apart-cases at 1 at' 1 l)
     other e same (inr n) = T-not (eqb i j) n (subst (λ (m : ℕ). T (eqb i m)) same (eqb-refl i))
+
+-- ---- a blank image, n bytes of zero
+
+abbrev pub blank : ℕ → List ℕ
+blank n = replicate n 0
+
+pub byte-blank : (n k : ℕ) → getD (blank n) k 0 ≡ 0
+byte-blank n k =
+    dite (decLt k n) (λ lt. getD-replicate n k 0 0 lt)
+    (λ ge. List·getD-eq-default (blank n) 0 (rw (length-replicate {A = ℕ} n 0) (omega arith)))
+
+pub word-blank : (n at count : ℕ) → wordAt (blank n) at count ≡ 0
+unfolding wordAt
+word-blank n at zero = refl
+word-blank n at (suc count) = rw (byte-blank n at, word-blank n (suc at) count)
+
+pub flag-blank : (n at i : ℕ) → flagAt (blank n) at i ≡ false
+unfolding flagAt
+flag-blank n at i = rw (byte-blank n at) (bit-past 0 (omega arith) (omega arith))

@@ -3,12 +3,50 @@ use mathlib.Core.Path.{_≡_, refl}
 use mathlib.Core.Bool.{Bool, true, false}
 use Prim.Native.Nat.{ℕ, _-_, _≤_, _<_}
 use native.Mathlib.Omega.{arith}
-use borrow.Author.Tests.{ltb-true, ltb-false}
+use borrow.Author.Tests.{ltb-true, ltb-false, lt-ltb, le-ltb}
 use lib.Dec.{ltb}
 use Rattle.bits.specs.Choose.{if_then_else_}
 use Rattle.image.specs.Map.{regionAt, indexOf}
 use Rattle.image.specs.declared.Region.{Region}
 use Rattle.image.specs.declared.Region.the-variants.{User, Registers, Calibration, Reserved, Log}
+
+-- ---- by the document's bounds
+
+pub region-user : (a : ℕ) → a < 0x0200 → regionAt a ≡ User a
+unfolding regionAt
+region-user a h = rw (lt-ltb a 0x0200 h)
+
+pub region-registers : (a : ℕ) → 0x0200 ≤ a → a < 0x0240 → regionAt a ≡ Registers (a - 0x0200)
+unfolding regionAt
+region-registers a h k = simp (le-ltb a 0x0200 h, lt-ltb a 0x0240 k)
+
+pub region-calibration : (a : ℕ) → 0x0240 ≤ a → a < 0x0280 → regionAt a ≡ Calibration (a - 0x0240)
+unfolding regionAt
+region-calibration a h k = simp (le-ltb a 0x0200 (omega arith), le-ltb a 0x0240 h, lt-ltb a 0x0280 k)
+
+pub region-reserved : (a : ℕ) → 0x0280 ≤ a → a < 0x1000 → regionAt a ≡ Reserved
+unfolding regionAt
+region-reserved a h k =
+    simp (le-ltb a 0x0200 (omega arith), le-ltb a 0x0240 (omega arith), le-ltb a 0x0280 h, lt-ltb a 0x1000 k)
+
+pub region-log : (a : ℕ) → 0x1000 ≤ a → a < 0x3000 → regionAt a ≡ Log (a - 0x1000)
+unfolding regionAt
+region-log a h k =
+    simp
+    (le-ltb a 0x0200 (omega arith), le-ltb a 0x0240 (omega arith), le-ltb a 0x0280 (omega arith), le-ltb a 0x1000 h, lt-ltb a 0x3000 k)
+
+pub region-past : (a : ℕ) → 0x3000 ≤ a → regionAt a ≡ Reserved
+unfolding regionAt
+region-past a h =
+    simp (
+      le-ltb a 0x0200 (omega arith),
+      le-ltb a 0x0240 (omega arith),
+      le-ltb a 0x0280 (omega arith),
+      le-ltb a 0x1000 (omega arith),
+      le-ltb a 0x3000 h,
+    )
+
+-- ---- by cases
 
 -- an address lies in a region by these bounds
 pub data Lies (a : ℕ) : Region → Type 0 where

@@ -1,13 +1,14 @@
 -- Rules of the three tables, each one test that is computed at all 64 entries. Assumes nothing.
 use mathlib.Core.Path.{_≡_, refl}
-use mathlib.Core.Bool.{Bool, not, _||_, _&&_}
+use mathlib.Core.Bool.{Bool, _||_, _&&_}
 use mathlib.Core.List.{List}
 use mathlib.Core.Logic.{dite}
-use Prim.Native.Nat.{ℕ, _≤_, _<_}
+use Prim.Native.Nat.{ℕ, _+_, _-_, _≤_, _<_}
 use native.Mathlib.Decide.{decLt}
 use native.Mathlib.Omega.{arith}
 use lib.Bits.{bitAnd}
 use lib.Dec.{T, eqb, ltb, leb, eqb→eq, ltb→lt}
+use lib.Ieee.Fits.{and-l, and-r}
 use lib.ListN.{length, getD, List·getD-eq-default}
 use Rattle.image.specs.Each.{each, each-at}
 use Rattle.image.specs.Tables.{writable, alwaysOne, named}
@@ -52,9 +53,16 @@ pub writable-named : (o : ℕ) → o < 64 → T (isPassword o || eqb (bitAnd (ge
 unfolding writable named
 writable-named o h = each-at 64 (λ k. isPassword k || eqb (bitAnd (getD writable k 0) (getD named k 0)) (getD writable k 0)) tt o h
 
-pub password-unnamed : (o : ℕ) → o < 64 → T (not (isPassword o) || eqb (getD named o 0) 0)
-unfolding named
-password-unnamed o h = each-at 64 (λ k. not (isPassword k) || eqb (getD named k 0) 0) tt o h
+-- at the passwords no bit is sent: none is named, and none is always one
+pub password-shut : (o : ℕ) → 0x28 ≤ o → o < 0x38 → (getD named o 0 ≡ 0) × (getD alwaysOne o 0 ≡ 0)
+unfolding named alwaysOne
+password-shut o lo hi =
+    let there : 0x28 + (o - 0x28) ≡ o = omega arith in
+    let both : T (eqb (getD named o 0) 0 && eqb (getD alwaysOne o 0) 0) =
+    rw there at (each-at 16 (λ i. eqb (getD named (0x28 + i) 0) 0 && eqb (getD alwaysOne (0x28 + i) 0) 0) tt (o - 0x28) (omega arith)) in (
+      eqb→eq _ _ (and-l (eqb (getD named o 0) 0) (eqb (getD alwaysOne o 0) 0) both),
+      eqb→eq _ _ (and-r (eqb (getD named o 0) 0) (eqb (getD alwaysOne o 0) 0) both),
+    )
 
 -- no bit is both named and always one
 pub alwaysOne-unnamed : (o : ℕ) → o < 64 → bitAnd (getD named o 0) (getD alwaysOne o 0) ≡ 0

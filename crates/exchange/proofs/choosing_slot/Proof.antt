@@ -1,0 +1,13 @@
+-- `exchange::choosing_slot` meets its contract. Assumes nothing.
+use borrow.Author.Needs.{needs}
+use Rattle.exchange.proofs.choosing_slot.Statement.{statement}
+use Rattle.exchange.proofs.choosing_slot.Tie as tie
+
+slot-requires : tie.Need-slot-requires
+slot-requires c κs = search needs
+
+returns : tie.Need-returns
+returns c = simp (c .before .before .before .slot .ensures)
+
+pub choosing-slot-spec : {M : Type 1} → statement M
+choosing-slot-spec = tie.close (tie.spec slot-requires returns)

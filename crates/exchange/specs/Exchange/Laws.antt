@@ -1,0 +1,110 @@
+-- What demand 3 of the order rests on: two tags whose exchanges are equal go on alike as long as no password field lets them
+-- pass, and do nothing but Forced Conversions. Assumes nothing.
+use mathlib.Core.Path.{_≡_, refl, ap}
+use mathlib.Core.Bool.{Bool, true, false, _&&_, false≢true}
+use Prim.Native.Nat.{ℕ}
+use lib.Dec.{eqb}
+use Rattle.bits.specs.Choose.{if_then_else_}
+use Rattle.memory.specs.declared.Question.{Question}
+use Rattle.memory.specs.Memory as memory
+use Rattle.memory.specs.Phases.{opened, reading, writing, confirms, lets, letsWrite, free}
+use Rattle.memory.specs.Phases.Laws as phases
+use Rattle.select.specs.Select as select
+use Rattle.select.specs.Select.Laws.{slots-agree}
+use Rattle.select.specs.Select.Ranges as select-ranges
+use Rattle.memory.specs.Range.{memoryInRange}
+use Rattle.memory.specs.Range.Laws as memory-ranges
+use Rattle.exchange.specs.declared.Exchange.{Exchange}
+use Rattle.exchange.specs.declared.Slotted.{Slotted}
+use Rattle.exchange.specs.Exchange.{newExchange, afterReset, asks, slotOf, commanded, choosing, exchangeInRange}
+
+-- ---- a reset
+
+-- what a reset leaves is fixed by number, Resume mark, scratchpad, TA and E/S
+pub reset-agree : (x y : Exchange) → x .number ≡ y .number → x .select .mark ≡ y .select .mark → x .held ≡ y .held → afterReset x ≡ afterReset y
+reset-agree x y n m h = cc
+
+-- after it no password has led anywhere
+pub reset-shut : (x : Exchange) → opened (afterReset x .bus .stage) ≡ false
+unfolding reading writing confirms
+reset-shut x = refl
+
+-- ---- a slot
+
+-- what choosing asks
+abbrev choosingAsks : Exchange → Bool → Question
+choosingAsks x bit = if select.asksAlarm (x .select) bit then Question.Alarm else Question.Nothing
+
+-- what holds of a memory command's slots and of choosing's holds of every slot: of its question, and of what it gives for any answer
+slot-cases : (P : Question → (ℕ → Slotted) → Type 0) (x : Exchange) (bit : Bool) →
+    P (memory.asks (x .bus) bit) (λ a. commanded x (memory.slotOf (x .held) (x .bus) bit a)) →
+    P (choosingAsks x bit) (λ a. choosing x (select.slotOf (x .select) (x .number) bit (eqb a 1))) →
+    P (asks x bit) (slotOf x bit)
+unfolding asks slotOf
+slot-cases P x bit p q = by (select.isSelected (x .select))
+  where
+    by : (chosen : Bool) → P (if chosen then memory.asks (x .bus) bit else choosingAsks x bit)
+        (λ a. if chosen then commanded x (memory.slotOf (x .held) (x .bus) bit a)
+        else choosing x (select.slotOf (x .select) (x .number) bit (eqb a 1)))
+    by true = p
+    by false = q
+
+-- no password leads anywhere as long as none is let pass
+pub shut-after : (x : Exchange) (bit : Bool) (answer : ℕ) → opened (x .bus .stage) ≡ false → lets (asks x bit) answer ≡ false →
+    opened (slotOf x bit answer .exchange .bus .stage) ≡ false
+shut-after x bit answer shut =
+    slot-cases (λ q s. lets q answer ≡ false → opened (s answer .exchange .bus .stage) ≡ false) x bit
+    (phases.shut-after (x .held) (x .bus) bit answer shut) (λ unlet. shut)
+
+-- the like of what only a field that may write leads to, and of what is done
+pub writing-after : (x : Exchange) (bit : Bool) (answer : ℕ) → writing (x .bus .stage) ≡ false → letsWrite (asks x bit) answer ≡ false →
+    writing (slotOf x bit answer .exchange .bus .stage) ≡ false
+writing-after x bit answer shut =
+    slot-cases (λ q s. letsWrite q answer ≡ false → writing (s answer .exchange .bus .stage) ≡ false) x bit
+    (phases.writing-after (x .held) (x .bus) bit answer shut) (λ unlet. shut)
+
+pub free-deed : (x : Exchange) (bit : Bool) (answer : ℕ) → writing (x .bus .stage) ≡ false → letsWrite (asks x bit) answer ≡ false →
+    free (slotOf x bit answer .deed) ≡ true
+unfolding free
+free-deed x bit answer shut =
+    slot-cases (λ q s. letsWrite q answer ≡ false → free (s answer .deed) ≡ true) x bit
+    (phases.free-deed (x .held) (x .bus) bit answer shut) (λ unlet. refl)
+
+-- two tags that stand alike and get no password move alike, whatever their images hold, if their alarms agree where they are asked
+pub shut-agree : (x : Exchange) (bit : Bool) (a b : ℕ) → opened (x .bus .stage) ≡ false →
+    lets (asks x bit) a ≡ false → lets (asks x bit) b ≡ false → (asks x bit ≡ Question.Alarm → eqb a 1 ≡ eqb b 1) →
+    slotOf x bit a ≡ slotOf x bit b
+shut-agree x bit a b shut =
+    slot-cases (λ q s. lets q a ≡ false → lets q b ≡ false → (q ≡ Question.Alarm → eqb a 1 ≡ eqb b 1) → s a ≡ s b) x bit
+    (λ p q alike. ap (commanded x) (phases.shut-agree (x .held) (x .bus) bit a b shut p q))
+    (λ p q alike. ap (choosing x) (slots-agree (x .select) (x .number) bit (eqb a 1) (eqb b 1) (λ asked. alike (simp asked))))
+
+-- no slot changes the number
+pub number-kept : (x : Exchange) (bit : Bool) (answer : ℕ) → slotOf x bit answer .exchange .number ≡ x .number
+number-kept x bit answer = slot-cases (λ q s. s answer .exchange .number ≡ x .number) x bit refl refl
+
+-- ---- ranges
+
+-- an exchange is in its ranges exactly if its parts are
+join : (x : Exchange) → select.selectInRange (x .select) ≡ true → memoryInRange (x .held) (x .bus) ≡ true → exchangeInRange x ≡ true
+join x p q = simp (p, q)
+
+parts : (x : Exchange) → exchangeInRange x ≡ true → (select.selectInRange (x .select) ≡ true) × (memoryInRange (x .held) (x .bus) ≡ true)
+parts x h = by (select.selectInRange (x .select)) h
+  where
+    by : (a : Bool) → (a && memoryInRange (x .held) (x .bus)) ≡ true → (a ≡ true) × (memoryInRange (x .held) (x .bus) ≡ true)
+    by true e = (refl, e)
+    by false e = absurd (false≢true e)
+
+pub new-in-range : (number : ℕ) → exchangeInRange (newExchange number) ≡ true
+new-in-range number = join (newExchange number) select-ranges.new-in-range memory-ranges.new-in-range
+
+pub reset-in-range : (x : Exchange) → exchangeInRange x ≡ true → exchangeInRange (afterReset x) ≡ true
+reset-in-range x h =
+    join (afterReset x) (select-ranges.reset-in-range (x .select)) (memory-ranges.clear-in-range (x .held) (x .bus) (parts x h .1))
+
+pub slot-in-range : (x : Exchange) (bit : Bool) (answer : ℕ) → exchangeInRange x ≡ true → exchangeInRange (slotOf x bit answer .exchange) ≡ true
+slot-in-range x bit answer h =
+    slot-cases (λ q s. exchangeInRange (s answer .exchange) ≡ true) x bit
+    (join (commanded x (memory.slotOf (x .held) (x .bus) bit answer) .exchange) (parts x h .0) (memory-ranges.slot-in-range (x .held) (x .bus) bit answer (parts x h .1)))
+    (join (choosing x (select.slotOf (x .select) (x .number) bit (eqb answer 1)) .exchange) (select-ranges.slot-in-range (x .select) (x .number) bit (eqb answer 1) (parts x h .0)) (parts x h .1))

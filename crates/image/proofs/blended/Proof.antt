@@ -1,0 +1,16 @@
+-- `image::blended` meets its contract: it is the definition. Assumes nothing.
+use mathlib.Core.Path.{refl}
+use borrow.Author.Needs.{needs}
+use Rattle.image.specs.Stored.{blend}
+use Rattle.image.proofs.blended.Statement.{statement}
+use Rattle.image.proofs.blended.Tie as tie
+
+sub-result : tie.Need-sub-result
+sub-result c = search needs
+
+returns : tie.Need-returns
+unfolding blend
+returns c = refl
+
+pub blended-spec : {M : Type 1} → statement M
+blended-spec = tie.close (tie.spec sub-result returns)
