@@ -1,0 +1,167 @@
+"""Deliberate faults of the model, each a line or two changed, to show that the sessions and dumps would catch them.
+
+A fault names the file of the model, the text to be replaced, which must stand there exactly once, and its replacement.
+`load` gives the programs of a model with one fault; the model itself is left as it is.
+"""
+
+import importlib
+import pathlib
+import sys
+import types
+from typing import NamedTuple
+
+FOLDER = pathlib.Path(__file__).parent / "model"
+MODULES = ("crc", "tag", "dock", "programs")
+
+
+class Fault(NamedTuple):
+    name: str
+    module: str
+    old: str
+    new: str
+
+
+def load(fault):
+    """The faulty model's module of programs."""
+    package = "faulty_" + "".join(c if c.isalnum() else "_" for c in fault.name)
+    sys.modules[package] = types.ModuleType(package)
+    sys.modules[package].__path__ = []
+    for name in MODULES:
+        source = (FOLDER / f"{name}.py").read_text()
+        if name == fault.module:
+            if source.count(fault.old) != 1:
+                raise ValueError(f"fault '{fault.name}': its text stands {source.count(fault.old)} times in {name}.py")
+            source = source.replace(fault.old, fault.new)
+        module = types.ModuleType(f"{package}.{name}")
+        module.__package__ = package
+        sys.modules[module.__name__] = module
+        setattr(sys.modules[package], name, module)
+        exec(compile(source, f"{name}.py with '{fault.name}'", "exec"), module.__dict__)
+    return importlib.import_module(f"{package}.programs")
+
+
+FAULTS = (
+    # Document 01, "Slips that look right"
+    Fault("password in the CRC", "tag", "sent = bytearray((READ_MEMORY, ta1, ta2))  #",
+          "sent = bytearray((READ_MEMORY, ta1, ta2)) + password  #"),
+    Fault("Copy after an address with no data", "tag", "self.ending_offset = ta1 & 0x1F\n        self.partial = 1",
+          "self.ending_offset = ta1 & 0x1F\n        self.partial = 0"),
+    Fault("WFTA tells whether entry 0 exists", "dock", "count = samples + 1 if alarmed else 0",
+          "count = 0 if register(STATUS) & 0x10 else samples + 1"),
+    Fault("listing from place 0 after rollover", "dock", "entry_reading(register, log, k) -",
+          "entry_reading(register, log, k - (count - held)) -"),
+    Fault("Start replies 0 on a right password", "tag", "STOP: self.stop}[command]()",
+          "STOP: self.stop}[command]()\n            yield\n            yield 1 if command != START else 0"),
+
+    # Choosing a tag on the line
+    Fault("Resume mark kept after Skip", "tag", "self.resume_mark = False\n        if command == CONDITIONAL_SEARCH",
+          "self.resume_mark &= command == SKIP_ROM\n        if command == CONDITIONAL_SEARCH"),
+    Fault("Resume mark kept by a Conditional Search not joined", "tag",
+          "self.resume_mark = False\n        if command == CONDITIONAL_SEARCH",
+          "self.resume_mark &= command == CONDITIONAL_SEARCH\n        if command == CONDITIONAL_SEARCH"),
+    Fault("Conditional Search without BOR", "tag", "not self.image[ALARMS] & (BOR | THF | TLF)",
+          "not self.image[ALARMS] & (THF | TLF)"),
+    Fault("nothing after Read ROM", "tag", "yield from say_bytes(self.rom)",
+          "yield from say_bytes(self.rom)\n            return False"),
+    Fault("a wrong Match sets the mark", "tag",
+          "self.resume_mark = yield from self.match()\n            return self.resume_mark",
+          "right = yield from self.match()\n            self.resume_mark = True\n            return right"),
+
+    # Scratchpad and Copy
+    Fault("PF not set by a broken byte", "tag", "byte = yield 1\n        self.partial = 1", "byte = yield 1"),
+    Fault("AA kept by Write Scratchpad", "tag", "self.accepted = 0\n        self.ending_offset",
+          "self.ending_offset"),
+    Fault("Copy without comparing AA", "tag", "authorization == self.address_registers() and",
+          "bytes(authorization) in (self.address_registers(), self.address_registers()[:2] + b'\\x1F') and"),
+    Fault("Copy short of the last place", "tag", "and self.ending_offset == 0x1F\n", "and True\n"),
+    Fault("registers written in a mission", "tag", "limit = REGISTERS if self.image[STATUS] & MIP else RESERVED",
+          "limit = RESERVED"),
+    Fault("calibration written in a mission", "tag", "limit = REGISTERS if self.image[STATUS] & MIP else RESERVED",
+          "limit = REGISTERS if self.image[STATUS] & MIP and self.target_address < CALIBRATION else RESERVED"),
+    Fault("Copy from the page's start", "tag", "for address in range(self.target_address, (",
+          "for address in range(self.target_address & ~0x1F, ("),
+    Fault("Copy with the read password", "tag", "self.password_right(password, FULL_PASSWORD)):",
+          "self.password_right(password, READ_PASSWORD, FULL_PASSWORD)):"),
+
+    # Read Memory and passwords
+    Fault("Read Memory loads TA", "tag", "sent = bytearray((READ_MEMORY, ta1, ta2))  #",
+          "self.target_address = ta2 << 8 | ta1\n        sent = bytearray((READ_MEMORY, ta1, ta2))  #"),
+    Fault("command and address in every page's CRC", "tag", "sent.clear()", "del sent[3:]"),
+    Fault("a byte taken before its first slot", "tag", "yield\n    byte = take()", "byte = take()\n    yield"),
+    Fault("passwords can be read", "tag", "(0x0219, 0x021E, 0xFF), (0x0220, 0x0225, 0xFF),",
+          "(0x0219, 0x021E, 0xFF), (0x0220, 0x0225, 0xFF), (0x0228, 0x0237, 0xFF),"),
+    Fault("the read password commands a mission", "tag", "right = self.password_right(password, FULL_PASSWORD)",
+          "right = self.password_right(password, READ_PASSWORD, FULL_PASSWORD)"),
+    Fault("checking on with any control byte", "tag", "if self.image[PASSWORD_CONTROL] != 0xAA:",
+          "if self.image[PASSWORD_CONTROL] == 0:"),
+    Fault("a mission command with any last byte", "tag", "if right and last == 0xFF:", "if right:"),
+
+    # Clock
+    Fault("CENT not flipped", "tag", "month ^= CENT", "pass"),
+    Fault("year 00 no leap year", "tag", "year is not None and year % 4 == 0", "year and year % 4 == 0"),
+    Fault("an invalid year has a leap day", "tag", "year is not None and year % 4 == 0",
+          "year is None or year % 4 == 0"),
+    Fault("every month has 31 days", "tag", "return 30 if month in (4, 6, 9, 11) else 31", "return 31"),
+    Fault("an invalid field steps", "tag", "lowest <= value < last", "value < last"),
+
+    # A mission
+    Fault("delay one tick late", "tag", "if self.minute == 60:", "if self.minute == 61:"),
+    Fault("the minute goes on over a Start", "tag", "self.minute = 0\n        self.until_conversion = 0",
+          "self.until_conversion = 0"),
+    Fault("stamp before the clock step", "tag", """\
+        if image[OSCILLATOR] & EOSC:
+            image[CLOCK:CLOCK + 6] = clock_after(image[CLOCK:CLOCK + 6])
+        self.last_reading = reading
+        if image[STATUS] & MIP:
+            self.mission_tick(reading)
+""", """\
+        self.last_reading = reading
+        if image[STATUS] & MIP:
+            self.mission_tick(reading)
+        if image[OSCILLATOR] & EOSC:
+            image[CLOCK:CLOCK + 6] = clock_after(image[CLOCK:CLOCK + 6])
+"""),
+    Fault("log full one entry late with SUTA", "tag",
+          "entries = samples + 1 if control & SUTA else samples\n        return", "entries = samples\n        return"),
+    Fault("log full one entry late", "tag", "and entries >= places", "and entries > places"),
+    Fault("a full log still counts device samples", "tag", "if not self.conversions_ended():\n",
+          "if self.conversions_ended():\n                self.count_device_sample()\n            else:\n"),
+    Fault("entry 0 to 8 bits in 16-bit format", "tag", "self.store_entry(0, reading)",
+          "self.store_entry(0, reading & ~7)"),
+    Fault("entry 0 is counted", "tag", "self.store_entry(0, reading)", "self.log_counted(reading)"),
+    Fault("latest reading to 11 bits in 8-bit format", "tag", "reading if self.image[CONTROL] & TLFS else reading & ~7",
+          "reading"),
+    Fault("high threshold not met by an equal reading", "tag", "halves >= self.image[HIGH_THRESHOLD]",
+          "halves > self.image[HIGH_THRESHOLD]"),
+    Fault("Clear keeps BOR", "tag", "self.image[ALARMS] = 0", "self.image[ALARMS] &= BOR"),
+    Fault("Clear clears WFTA", "tag", "self.image[STATUS] |= MEMCLR", "self.image[STATUS] = MEMCLR"),
+    Fault("Stop clears WFTA", "tag", "self.image[STATUS] &= ~MIP", "self.image[STATUS] &= ~(MIP | WFTA)"),
+    Fault("Start without Clear", "tag", "if not status & MEMCLR or status & MIP or", "if status & MIP or"),
+    Fault("Forced Conversion in a mission", "tag",
+          "def forced_conversion(self):\n        if self.image[STATUS] & MIP:\n            return\n",
+          "def forced_conversion(self):\n"),
+    Fault("Forced Conversion sets a flag", "tag", "if self.alarms(self.last_reading):\n",
+          "self.image[ALARMS] |= self.alarms(self.last_reading)\n        if self.alarms(self.last_reading):\n"),
+    Fault("Forced Conversion leaves WFTA", "tag", "if self.alarms(self.last_reading):", "if False:"),
+    Fault("Forced Conversion to the format's bits", "tag", "self.set_latest(self.last_reading)",
+          "self.set_latest(self.last_reading if self.image[CONTROL] & TLFS else self.last_reading & ~7)"),
+
+    # The dump and its listing
+    Fault("BOR tells of an entry 0", "dock", "register(ALARMS) & (THF | TLF)", "register(ALARMS) & (THF | TLF | 0x80)"),
+    Fault("fourteen bits of rate", "dock", "register(RATE + 1) << 8", "(register(RATE + 1) & 0x3F) << 8"),
+    Fault("seconds from entry 0 with SUTA", "dock", "first = 1 if register(CONTROL) & SUTA else 0", "first = 0"),
+    Fault("the CRC looked at before the page", "dock", """\
+    if line_bytes[:2] != page.to_bytes(2, "big"):
+        raise Refused(9)
+    if line_bytes[34:] != line_crc(page, data):
+        raise Refused(8)
+""", """\
+    if line_bytes[34:] != line_crc(page, data):
+        raise Refused(8)
+    if line_bytes[:2] != page.to_bytes(2, "big"):
+        raise Refused(9)
+"""),
+    Fault("a full log with SUTA refused", "dock", "count > places(register)", "count >= places(register)"),
+    Fault("an 18,835th byte not noticed", "dock", "if len(text) != DUMP_LENGTH:", "if len(text) < DUMP_LENGTH:"),
+    Fault("small digits taken", "dock", 'DIGITS = b"0123456789ABCDEF"', 'DIGITS = b"0123456789ABCDEFabcdef"'),
+)
