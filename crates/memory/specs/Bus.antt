@@ -28,10 +28,14 @@ abbrev pub gathering : Bus → ℕ → ℕ → Bus
 gathering bus field at =
     record { stage = bus .stage; byte = bus .byte; at = at; crc = bus .crc; address = bus .address; status = bus .status; field = field }
 
--- the CRC-16 runs from this register over this byte
-abbrev pub adding : Bus → ℕ → ℕ → Bus
-adding bus crc byte =
-    record { stage = bus .stage; byte = bus .byte; at = bus .at; crc = crc16Byte crc byte; address = bus .address; status = bus .status; field = bus .field }
+-- a byte counts in the CRC-16
+abbrev pub adding : Bus → ℕ → Bus
+adding bus byte =
+    record { stage = bus .stage; byte = bus .byte; at = bus .at; crc = crc16Byte (bus .crc) byte; address = bus .address; status = bus .status; field = bus .field }
+
+-- a byte counts in the CRC-16, and the next one begins, at this stage
+abbrev pub counting : Bus → ℕ → Stage → Bus
+counting bus byte stage = goTo (adding bus byte) stage
 
 -- the CRC-16 begins anew
 abbrev pub freshCrc : Bus → Bus

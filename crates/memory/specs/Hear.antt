@@ -16,7 +16,7 @@ use Rattle.memory.specs.declared.Moved.{Moved}
 use Rattle.memory.specs.declared.Next.{Next}
 use Rattle.memory.specs.declared.Sending.{Sending}
 use Rattle.memory.specs.declared.Stage.{Stage}
-use Rattle.memory.specs.Bus.{goTo, passing, adding, addressing, noting, listens}
+use Rattle.memory.specs.Bus.{goTo, passing, adding, counting, freshCrc, addressing, noting, listens}
 
 -- which stage a command byte leads to
 unfoldable pub commandStage : ℕ → Stage
@@ -77,13 +77,13 @@ confirmed control held bus byte =
 -- a whole byte is heard
 unfoldable pub heardWhole : Hearing → Held → Bus → ℕ → Moved
 heardWhole Hearing.Command held bus byte =
-    listens held (goTo (adding bus 0 byte) (commandStage byte)) Deed.Nothing
+    listens held (counting (freshCrc bus) byte (commandStage byte)) Deed.Nothing
 heardWhole (Hearing.Low a) held bus byte =
-    listens held (goTo (addressing (adding bus (bus .crc) byte) byte) (Stage.Hears (Hearing.High a))) Deed.Nothing
+    listens held (goTo (addressing (adding bus byte) byte) (Stage.Hears (Hearing.High a))) Deed.Nothing
 heardWhole (Hearing.High a) held bus byte =
-    addressHeard a held (addressing (adding bus (bus .crc) byte) (bus .address % 256 + 256 * byte))
+    addressHeard a held (addressing (adding bus byte) (bus .address % 256 + 256 * byte))
 heardWhole (Hearing.Data place) held bus byte =
-    listens (stored held place byte) (goTo (adding bus (bus .crc) byte) (afterData place)) Deed.Nothing
+    listens (stored held place byte) (counting bus byte (afterData place)) Deed.Nothing
 heardWhole Hearing.Status held bus byte =
     listens held (goTo (noting bus byte) (Stage.Gathers Guarded.Copying)) Deed.Nothing
 heardWhole (Hearing.Confirm control) held bus byte = confirmed control held bus byte

@@ -13,7 +13,7 @@ use Rattle.memory.specs.declared.Next.{Next}
 use Rattle.memory.specs.declared.Question.{Question}
 use Rattle.memory.specs.declared.Sending.{Sending}
 use Rattle.memory.specs.declared.Stage.{Stage}
-use Rattle.memory.specs.Bus.{goTo, passing, adding, addressing, freshCrc, statusByte, padByte}
+use Rattle.memory.specs.Bus.{goTo, passing, adding, counting, addressing, freshCrc, statusByte, padByte}
 
 -- the byte that goes out, as it is at its first slot; `memory` is what the image holds for Read Memory
 unfoldable pub firstByte : Sending → Held → Bus → ℕ → ℕ
@@ -36,22 +36,22 @@ afterMemory bus =
     else goTo bus (Stage.Sends (Sending.CrcLow Next.Page))
 
 -- ".. then each next page and CRC-16 over its data alone, up to 2FFFh"
-unfoldable pub nextPage : Bus → Bus
-nextPage bus = goTo (addressing (freshCrc bus) (bus .address + 1)) (Stage.Sends Sending.Memory)
+unfoldable pub afterPage : Bus → Bus
+afterPage bus =
+    if ltb (bus .address) 0x2FFF then goTo (addressing (freshCrc bus) (bus .address + 1)) (Stage.Sends Sending.Memory)
+    else goTo bus Stage.Over
 
 unfoldable pub afterCrc : Next → Bus → Bus
 afterCrc Next.Nothing bus = goTo bus Stage.Over
-afterCrc Next.Page bus =
-    if ltb (bus .address) 0x2FFF then nextPage bus
-    else goTo bus Stage.Over
+afterCrc Next.Page bus = afterPage bus
 
 -- a whole byte has gone out; every byte but those of the CRC itself counts in the CRC
 unfoldable pub sentWhole : Sending → Held → Bus → ℕ → Bus
-sentWhole Sending.PadLow held bus byte = goTo (adding bus (bus .crc) byte) (Stage.Sends Sending.PadHigh)
-sentWhole Sending.PadHigh held bus byte = goTo (adding bus (bus .crc) byte) (Stage.Sends Sending.PadStatus)
-sentWhole Sending.PadStatus held bus byte = goTo (adding bus (bus .crc) byte) (Stage.Sends (Sending.PadData (held .ta % 32)))
-sentWhole (Sending.PadData place) held bus byte = goTo (adding bus (bus .crc) byte) (afterPad place)
-sentWhole Sending.Memory held bus byte = afterMemory (adding bus (bus .crc) byte)
+sentWhole Sending.PadLow held bus byte = counting bus byte (Stage.Sends Sending.PadHigh)
+sentWhole Sending.PadHigh held bus byte = counting bus byte (Stage.Sends Sending.PadStatus)
+sentWhole Sending.PadStatus held bus byte = counting bus byte (Stage.Sends (Sending.PadData (held .ta % 32)))
+sentWhole (Sending.PadData place) held bus byte = counting bus byte (afterPad place)
+sentWhole Sending.Memory held bus byte = afterMemory (adding bus byte)
 sentWhole (Sending.CrcLow next) held bus byte = goTo bus (Stage.Sends (Sending.CrcHigh next))
 sentWhole (Sending.CrcHigh next) held bus byte = afterCrc next bus
 

@@ -11,6 +11,8 @@ use crate::Sending;
 use crate::Stage;
 use crate::state;
 ghost use mathlib.Core.Path.{_≡_};
+ghost use Rattle.memory.specs.declared.Guarded.{Guarded};
+ghost use Rattle.memory.specs.Bus.{gathering};
 ghost use Rattle.memory.specs.Field.{gatheredBit, judged, afterReading, afterControlling, copies, asHeld, toTheEnd, accepted, fieldAsks, fieldQuestion};
 
 // What is asked of the image: whether the field may, once it is whole.
@@ -42,10 +44,26 @@ pub fn gather(g: Guarded, held: Held, bus: Bus, bit: bool, may: bool) -> Moved
     let at = bus.at;
     if at < 63 {
         let field = bits::shift_in64(bus.field, bit);
-        let bus = state::gather_on(bus, field, at + 1);
+        let bus = gather_on(bus, field, at + 1);
         state::listen(held, bus, Deed::Nothing)
     } else {
         judge(g, held, bus, may)
+    }
+}
+
+// The field so far, with this many bits past. The CRC-16 counts none of them.
+fn gather_on(bus: Bus, field: u64, at: u8) -> Bus
+    ensures { λ r. ⌜ r ≡ gathering bus field at ⌝ }
+{
+    let stage = bus.stage;
+    Bus {
+        stage,
+        byte: bus.byte,
+        at,
+        crc: bus.crc,
+        address: bus.address,
+        status: bus.status,
+        field,
     }
 }
 
@@ -55,22 +73,26 @@ fn judge(g: Guarded, held: Held, bus: Bus, may: bool) -> Moved
 {
     match g {
         Guarded::Reading => {
-            let stage = reading(bus.address, may);
-            state::listen(held, state::to(bus, stage), Deed::Nothing)
+            let bus = state::to(bus, reading(bus.address, may));
+            state::listen(held, bus, Deed::Nothing)
         }
-        Guarded::Copying => {
-            if copied(held, bus, may) {
-                let bus = state::to(bus, Stage::Copied);
-                state::listen(accept(held), bus, Deed::Store)
-            } else {
-                let bus = state::to(bus, Stage::Over);
-                state::listen(held, bus, Deed::Nothing)
-            }
-        }
+        Guarded::Copying => copy(held, bus, may),
         Guarded::Controlling(control) => {
-            let stage = controlling(control, may);
-            state::listen(held, state::to(bus, stage), Deed::Nothing)
+            let bus = state::to(bus, controlling(control, may));
+            state::listen(held, bus, Deed::Nothing)
         }
+    }
+}
+
+fn copy(held: Held, bus: Bus, may: bool) -> Moved
+    ensures { λ r. ⌜ r ≡ judged Guarded.Copying held bus may ⌝ }
+{
+    if copied(held, bus, may) {
+        let bus = state::to(bus, Stage::Copied);
+        state::listen(accept(held), bus, Deed::Store)
+    } else {
+        let bus = state::to(bus, Stage::Over);
+        state::listen(held, bus, Deed::Nothing)
     }
 }
 

@@ -12,6 +12,7 @@ use crate::Sending;
 use crate::Stage;
 use crate::state;
 ghost use mathlib.Core.Path.{_≡_};
+ghost use Rattle.memory.specs.declared.Hearing.{Hearing};
 ghost use Rattle.memory.specs.Hear.{heardBit, heardWhole, commandStage, addressHeard, loaded, stored, afterData, underWay, confirmed, deedOf};
 
 // One bit heard. The bits of a byte come low bit first, and with its eighth the byte is whole.
@@ -57,36 +58,55 @@ fn whole(h: Hearing, held: Held, bus: Bus, byte: u8) -> Moved
     ensures { λ r. ⌜ r ≡ heardWhole h held bus byte ⌝ }
 {
     match h {
-        Hearing::Command => {
-            let stage = command(byte);
-            let bus = state::to(state::add(bus, 0, byte), stage);
-            state::listen(held, bus, Deed::Nothing)
-        }
-        Hearing::Low(a) => {
-            let bus = state::at_address(state::add(bus, bus.crc, byte), byte as u16);
-            let bus = state::to(bus, Stage::Hears(Hearing::High(a)));
-            state::listen(held, bus, Deed::Nothing)
-        }
-        Hearing::High(a) => {
-            let address = bus.address % 256 + 256 * (byte as u16);
-            let bus = state::at_address(state::add(bus, bus.crc, byte), address);
-            addressed(a, held, bus)
-        }
-        Hearing::Data(place) => {
-            let held = store(held, place, byte);
-            let bus = state::to(state::add(bus, bus.crc, byte), after_data(place));
-            state::listen(held, bus, Deed::Nothing)
-        }
-        Hearing::Status => {
-            let bus = state::to(state::note(bus, byte), Stage::Gathers(Guarded::Copying));
-            state::listen(held, bus, Deed::Nothing)
-        }
+        Hearing::Command => command(held, bus, byte),
+        Hearing::Low(a) => low(a, held, bus, byte),
+        Hearing::High(a) => high(a, held, bus, byte),
+        Hearing::Data(place) => data(place, held, bus, byte),
+        Hearing::Status => status(held, bus, byte),
         Hearing::Confirm(control) => confirm(control, held, bus, byte),
     }
 }
 
+// The CRC-16 begins with the command.
+fn command(held: Held, bus: Bus, byte: u8) -> Moved
+    ensures { λ r. ⌜ r ≡ heardWhole Hearing.Command held bus byte ⌝ }
+{
+    let bus = state::count(state::fresh_crc(bus), byte, command_stage(byte));
+    state::listen(held, bus, Deed::Nothing)
+}
+
+fn low(a: Addressed, held: Held, bus: Bus, byte: u8) -> Moved
+    ensures { λ r. ⌜ r ≡ heardWhole (Hearing.Low a) held bus byte ⌝ }
+{
+    let bus = state::at_address(state::add(bus, byte), byte as u16);
+    let bus = state::to(bus, Stage::Hears(Hearing::High(a)));
+    state::listen(held, bus, Deed::Nothing)
+}
+
+fn high(a: Addressed, held: Held, bus: Bus, byte: u8) -> Moved
+    ensures { λ r. ⌜ r ≡ heardWhole (Hearing.High a) held bus byte ⌝ }
+{
+    let address = bus.address % 256 + 256 * (byte as u16);
+    addressed(a, held, state::at_address(state::add(bus, byte), address))
+}
+
+fn data(place: u8, held: Held, bus: Bus, byte: u8) -> Moved
+    ensures { λ r. ⌜ r ≡ heardWhole (Hearing.Data place) held bus byte ⌝ }
+{
+    let held = store(held, place, byte);
+    let bus = state::count(bus, byte, after_data(place));
+    state::listen(held, bus, Deed::Nothing)
+}
+
+fn status(held: Held, bus: Bus, byte: u8) -> Moved
+    ensures { λ r. ⌜ r ≡ heardWhole Hearing.Status held bus byte ⌝ }
+{
+    let bus = state::to(state::note(bus, byte), Stage::Gathers(Guarded::Copying));
+    state::listen(held, bus, Deed::Nothing)
+}
+
 // Which stage a command byte leads to.
-fn command(byte: u8) -> Stage
+fn command_stage(byte: u8) -> Stage
     ensures { λ r. ⌜ r ≡ commandStage byte ⌝ }
 {
     match byte {

@@ -9,7 +9,7 @@ use crate::Sending;
 use crate::Stage;
 use crate::state;
 ghost use mathlib.Core.Path.{_≡_};
-ghost use Rattle.memory.specs.Send.{firstByte, afterPad, afterMemory, afterCrc, sentWhole, outgoing, sentBit, alternating, sendAsks};
+ghost use Rattle.memory.specs.Send.{firstByte, afterPad, afterMemory, afterPage, afterCrc, sentWhole, outgoing, sentBit, alternating, sendAsks};
 
 // What is asked of the image: Read Memory's byte, at its first slot.
 pub fn send_asks(s: Sending, bus: Bus) -> Question
@@ -87,16 +87,15 @@ fn first(s: Sending, held: Held, bus: Bus, memory: u8) -> u8
 fn whole(s: Sending, held: Held, bus: Bus, byte: u8) -> Bus
     ensures { λ r. ⌜ r ≡ sentWhole s held bus byte ⌝ }
 {
-    let counted = state::add(bus, bus.crc, byte);
     match s {
-        Sending::PadLow => state::to(counted, Stage::Sends(Sending::PadHigh)),
-        Sending::PadHigh => state::to(counted, Stage::Sends(Sending::PadStatus)),
+        Sending::PadLow => state::count(bus, byte, Stage::Sends(Sending::PadHigh)),
+        Sending::PadHigh => state::count(bus, byte, Stage::Sends(Sending::PadStatus)),
         Sending::PadStatus => {
             let offset = (held.ta % 32) as u8;
-            state::to(counted, Stage::Sends(Sending::PadData(offset)))
+            state::count(bus, byte, Stage::Sends(Sending::PadData(offset)))
         }
-        Sending::PadData(place) => state::to(counted, after_pad(place)),
-        Sending::Memory => after_memory(counted),
+        Sending::PadData(place) => state::count(bus, byte, after_pad(place)),
+        Sending::Memory => after_memory(state::add(bus, byte)),
         Sending::CrcLow(next) => state::to(bus, Stage::Sends(Sending::CrcHigh(next))),
         Sending::CrcHigh(next) => after_crc(next, bus),
     }
@@ -132,15 +131,20 @@ fn after_crc(next: Next, bus: Bus) -> Bus
 {
     match next {
         Next::Nothing => state::to(bus, Stage::Over),
-        Next::Page => {
-            let address = bus.address;
-            if address < 0x2FFF {
-                let bus = state::at_address(state::fresh_crc(bus), address + 1);
-                state::to(bus, Stage::Sends(Sending::Memory))
-            } else {
-                state::to(bus, Stage::Over)
-            }
-        }
+        Next::Page => after_page(bus),
+    }
+}
+
+// The next page with a CRC-16 of its own, or the end at 2FFFh.
+fn after_page(bus: Bus) -> Bus
+    ensures { λ r. ⌜ r ≡ afterPage bus ⌝ }
+{
+    let address = bus.address;
+    if address < 0x2FFF {
+        let bus = state::at_address(state::fresh_crc(bus), address + 1);
+        state::to(bus, Stage::Sends(Sending::Memory))
+    } else {
+        state::to(bus, Stage::Over)
     }
 }
 

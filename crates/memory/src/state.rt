@@ -7,7 +7,7 @@ use crate::Stage;
 ghost use mathlib.Core.Path.{_≡_};
 ghost use Prim.Native.Nat.{_*_};
 ghost use Rattle.bits.specs.Bits.{digit};
-ghost use Rattle.memory.specs.Bus.{clearBus, goTo, passing, adding, addressing, noting, gathering, freshCrc, listens, statusByte, padByte};
+ghost use Rattle.memory.specs.Bus.{clearBus, goTo, passing, adding, counting, addressing, noting, freshCrc, listens, statusByte, padByte};
 
 // Nothing is under way but this stage.
 pub fn clear(stage: Stage) -> Bus
@@ -55,36 +55,27 @@ pub fn pass(bus: Bus, byte: u8, at: u8) -> Bus
     }
 }
 
-// A password field under way, with this many bits past.
-pub fn gather_on(bus: Bus, field: u64, at: u8) -> Bus
-    ensures { λ r. ⌜ r ≡ gathering bus field at ⌝ }
-{
-    let stage = bus.stage;
-    Bus {
-        stage,
-        byte: bus.byte,
-        at,
-        crc: bus.crc,
-        address: bus.address,
-        status: bus.status,
-        field,
-    }
-}
-
-// The CRC-16 runs from this register over this byte.
-pub fn add(bus: Bus, crc: u16, byte: u8) -> Bus
-    ensures { λ r. ⌜ r ≡ adding bus crc byte ⌝ }
+// A byte counts in the CRC-16.
+pub fn add(bus: Bus, byte: u8) -> Bus
+    ensures { λ r. ⌜ r ≡ adding bus byte ⌝ }
 {
     let stage = bus.stage;
     Bus {
         stage,
         byte: bus.byte,
         at: bus.at,
-        crc: crc::crc16_byte(crc, byte),
+        crc: crc::crc16_byte(bus.crc, byte),
         address: bus.address,
         status: bus.status,
         field: bus.field,
     }
+}
+
+// A byte counts in the CRC-16, and the next one begins, at this stage.
+pub fn count(bus: Bus, byte: u8, stage: Stage) -> Bus
+    ensures { λ r. ⌜ r ≡ counting bus byte stage ⌝ }
+{
+    to(add(bus, byte), stage)
 }
 
 // The CRC-16 begins anew.

@@ -1,18 +1,17 @@
 -- A frame down to the bit: what a change leaves. Beside the runs of bytes that it may touch stand the flags that it may put,
 -- each a byte's place and a bit of it; on numerals the tests compute, and `tt` closes them. Assumes nothing.
-use mathlib.Core.Path.{_≡_, refl, sym, _∙_, subst}
+use mathlib.Core.Path.{_≡_, refl, sym, _∙_}
 use mathlib.Core.Bool.{Bool, true, false, not, _&&_, _||_}
 use mathlib.Core.List.{List, [], _∷_}
-use mathlib.Core.Logic.{_⊎_, inl, inr, ⊎-elim}
+use mathlib.Core.Logic.{⊎-elim}
 use Prim.Native.Nat.{ℕ, _+_}
-use native.Mathlib.Omega.{arith}
 use lib.Dec.{T, leb, leb→le, ltb, eqb, eqb→eq}
 use lib.Ieee.Fits.{and-l, and-r, and-i}
 use lib.ListN.{getD, set}
 use Rattle.bits.specs.Choose.{if_then_else_}
 use Rattle.image.specs.Fields.{wordAt, putWord, flagAt, putFlag, apart}
 use Rattle.image.specs.Fields.Laws.{either, apart-sym, apart-part, flag-putFlag-other}
-use Rattle.image.specs.Keeps.{Run, inside, free, covers, coversAll, Keeps, keeps-same, keeps-then, keeps-choice, keeps-wider, keeps-set, keeps-putWord, keeps-putFlag, word-kept, flag-kept}
+use Rattle.image.specs.Keeps.{Run, inside, free, covers, coversAll, Keeps, keeps-same, keeps-then, keeps-wider, keeps-set, keeps-putWord, keeps-putFlag, word-kept, flag-kept}
 
 abbrev pub Flag : Type 0
 Flag = ℕ × ℕ

@@ -20,6 +20,7 @@ use Rattle.mission.specs.declared.Counters.{Counters}
 use Rattle.mission.specs.Mission as mission
 use Rattle.tag.specs.declared.Answered.{Answered}
 use Rattle.tag.specs.declared.Tag.{Tag}
+pub mod Laws
 
 -- what a call leaves: its answer, and the lent image
 pub record Outcome : Type 0 where

@@ -21,7 +21,7 @@ use Rattle.memory.specs.declared.Stage.{Stage}
 use Rattle.memory.specs.Bus.{passing, gathering, listens}
 use Rattle.memory.specs.Hear.{underWay, addressHeard, stored, confirmed, heardWhole, heardBit}
 use Rattle.memory.specs.Field.{asHeld, copies, judged, gatheredBit, fieldQuestion, fieldAsks}
-use Rattle.memory.specs.Send.{firstByte, afterMemory, nextPage, afterCrc, sentWhole, outgoing, sentBit, sendAsks}
+use Rattle.memory.specs.Send.{firstByte, afterMemory, afterPage, afterCrc, sentWhole, outgoing, sentBit, sendAsks}
 use Rattle.memory.specs.Memory.{asks, stageAsks, stageSlot, onLine, slotOf}
 
 -- ---- what holds of both values holds of a choice between them, and of two choices by one test
@@ -158,7 +158,7 @@ sending-asks-nothing s bus bit e past = asks-at bus bit e ∙ nothing s
     nothing (Sending.CrcHigh next) = refl
 
 pub sent-begun : (s : Sending) (held : Held) (bus : Bus) (kept at byte : ℕ) → sentWhole s held (passing bus kept at) byte ≡ sentWhole s held bus byte
-unfolding sentWhole afterMemory afterCrc nextPage
+unfolding sentWhole afterMemory afterCrc afterPage
 sent-begun Sending.PadLow held bus kept at byte = refl
 sent-begun Sending.PadHigh held bus kept at byte = refl
 sent-begun Sending.PadStatus held bus kept at byte = refl

@@ -21,7 +21,7 @@ use Rattle.memory.specs.declared.Stage.{Stage}
 use Rattle.memory.specs.Bus.{gathering, listens}
 use Rattle.memory.specs.Hear.{commandStage, addressHeard, afterData, confirmed, deedOf, heardWhole, heardBit}
 use Rattle.memory.specs.Field.{guarded, afterReading, afterControlling, asHeld, toTheEnd, copies, judged, gatheredBit, fieldQuestion, fieldAsks}
-use Rattle.memory.specs.Send.{firstByte, afterPad, afterMemory, nextPage, afterCrc, sentWhole, outgoing, sentBit, alternating, sendAsks}
+use Rattle.memory.specs.Send.{firstByte, afterPad, afterMemory, afterPage, afterCrc, sentWhole, outgoing, sentBit, alternating, sendAsks}
 use Rattle.memory.specs.Memory.{asks, stageAsks, stageSlot, onLine, slotOf}
 use Rattle.memory.specs.Memory.Laws.{either, both}
 use Rattle.memory.specs.Phases.{isPage, sendsMemory, reading, confirms, writing, opened, letsRead, letsWrite, lets, takes, isByte, hearingDeed, fieldDeed, deedAt, free}
@@ -105,7 +105,7 @@ sent-reading (Sending.CrcHigh Next.Nothing) held bus byte h = refl
 sent-reading (Sending.CrcHigh Next.Page) held bus byte h = cc
 
 sent-writing : (s : Sending) (held : Held) (bus : Bus) (byte : ℕ) → writing (sentWhole s held bus byte .stage) ≡ false
-unfolding sentWhole afterPad afterMemory nextPage afterCrc writing
+unfolding sentWhole afterPad afterMemory afterPage afterCrc writing
 sent-writing Sending.PadLow held bus byte = refl
 sent-writing Sending.PadHigh held bus byte = refl
 sent-writing Sending.PadStatus held bus byte = refl

@@ -17,10 +17,10 @@ use Rattle.memory.specs.declared.Moved.{Moved}
 use Rattle.memory.specs.declared.Next.{Next}
 use Rattle.memory.specs.declared.Sending.{Sending}
 use Rattle.memory.specs.declared.Stage.{Stage}
-use Rattle.memory.specs.Bus.{clearBus, goTo, passing, gathering, adding, addressing, listens}
+use Rattle.memory.specs.Bus.{clearBus, goTo, passing, gathering, adding, freshCrc, addressing, listens}
 use Rattle.memory.specs.Hear.{commandStage, addressHeard, loaded, stored, afterData, underWay, confirmed, heardWhole, heardBit}
 use Rattle.memory.specs.Field.{guarded, afterReading, afterControlling, copies, judged, gatheredBit}
-use Rattle.memory.specs.Send.{afterPad, afterMemory, nextPage, afterCrc, sentWhole, outgoing, sentBit, alternating}
+use Rattle.memory.specs.Send.{afterPad, afterMemory, afterPage, afterCrc, sentWhole, outgoing, sentBit, alternating}
 use Rattle.memory.specs.Memory.{newHeld, stageSlot, onLine, slotOf}
 use Rattle.memory.specs.Memory.Laws.{either}
 use Rattle.memory.specs.Range.{fromOffset, hearingInRange, guardedInRange, crcInRange, sendingInRange, stageInRange, memoryInRange}
@@ -85,7 +85,7 @@ command-ranged held bus byte =
 
 heard-ranged : (h : Hearing) (held : Held) (bus : Bus) (byte : ℕ) → fromOffset held (held .ending) ≡ true → hearingInRange h held ≡ true → After (heardWhole h held bus byte)
 unfolding heardWhole addressHeard stored afterData confirmed fromOffset stageInRange hearingInRange guardedInRange sendingInRange crcInRange
-heard-ranged Hearing.Command held bus byte e h = (e, command-ranged held (adding bus 0 byte) byte)
+heard-ranged Hearing.Command held bus byte e h = (e, command-ranged held (adding (freshCrc bus) byte) byte)
 heard-ranged (Hearing.Low a) held bus byte e h = (e, refl)
 heard-ranged (Hearing.High Addressed.Write) held bus byte e h =
     let now = loaded held (bus .address % 256 + 256 * byte) in (offset-ranged now, offset-ranged now)
@@ -96,7 +96,7 @@ heard-ranged (Hearing.Data place) held bus byte e h = (h, by (ltb place 31) refl
     by :
         (more : Bool) →
         ltb place 31 ≡ more →
-        Entered (stored held place byte) (adding bus (bus .crc) byte) (if more then Stage.Hears (Hearing.Data (place + 1)) else Stage.Sends (Sending.CrcLow Next.Nothing))
+        Entered (stored held place byte) (adding bus byte) (if more then Stage.Hears (Hearing.Data (place + 1)) else Stage.Sends (Sending.CrcLow Next.Nothing))
     by true more = next-ranged (stored held place byte) place h (ltb-true place 31 more)
     by false more = refl
 heard-ranged Hearing.Status held bus byte e h = (e, refl)
@@ -133,7 +133,7 @@ memory-ranged held bus h = by (ltb (bus .address % 32) 31) refl
         and-intro h (eq-eqb _ _ last)
 
 sent-ranged : (s : Sending) (held : Held) (bus : Bus) (byte : ℕ) → sendingInRange s held bus ≡ true → OnBus held (sentWhole s held bus byte)
-unfolding sentWhole afterPad afterCrc nextPage stageInRange sendingInRange crcInRange
+unfolding sentWhole afterPad afterCrc afterPage stageInRange sendingInRange crcInRange
 sent-ranged Sending.PadLow held bus byte h = refl
 sent-ranged Sending.PadHigh held bus byte h = refl
 sent-ranged Sending.PadStatus held bus byte h = offset-ranged held
@@ -142,15 +142,15 @@ sent-ranged (Sending.PadData place) held bus byte h = by (ltb place 31) refl
     by :
         (more : Bool) →
         ltb place 31 ≡ more →
-        Entered held (adding bus (bus .crc) byte) (Stage.Sends (if more then Sending.PadData (place + 1) else Sending.CrcLow Next.Nothing))
+        Entered held (adding bus byte) (Stage.Sends (if more then Sending.PadData (place + 1) else Sending.CrcLow Next.Nothing))
     by true more = next-ranged held place h (ltb-true place 31 more)
     by false more = refl
-sent-ranged Sending.Memory held bus byte h = memory-ranged held (adding bus (bus .crc) byte) h
+sent-ranged Sending.Memory held bus byte h = memory-ranged held (adding bus byte) h
 sent-ranged (Sending.CrcLow next) held bus byte h = h
 sent-ranged (Sending.CrcHigh Next.Nothing) held bus byte h = refl
 sent-ranged (Sending.CrcHigh Next.Page) held bus byte h = by (ltb (bus .address) 0x2FFF) refl
   where
-    by : (more : Bool) → ltb (bus .address) 0x2FFF ≡ more → OnBus held (if more then nextPage bus else goTo bus Stage.Over)
+    by : (more : Bool) → ltb (bus .address) 0x2FFF ≡ more → OnBus held (if more then goTo (addressing (freshCrc bus) (bus .address + 1)) (Stage.Sends Sending.Memory) else goTo bus Stage.Over)
     by true more = let low = ltb-true (bus .address) 0x2FFF more in lt-ltb (bus .address + 1) 0x3000 (omega arith)
     by false more = refl
 

@@ -1,4 +1,5 @@
--- `mission::clear` meets its contract: six puts, one after the other. Assumes nothing.
+-- `mission::clear` meets its contract: six puts, one after the other.
+-- `c6` is what was known six places before `c`. Assumes nothing.
 use Rattle.mission.specs.Mission.{cleared}
 use borrow.Author.Needs.{needs}
 use Rattle.mission.proofs.clear.Statement.{statement}
@@ -46,7 +47,16 @@ returns-2 c =
     let c22 = c18 .before .before .before .before in
     let c24 = c22 .before .before in
     let c25 = c24 .before in
-    rw (c2 .put-flag4 .ensures, c6 .put-flag3 .ensures, c10 .put-flag2 .ensures, c14 .put-flag .ensures, c18 .put-word2 .ensures, c22 .put-word .ensures, ← (c25 .flag .ensures), c24 .if1 .left)
+    rw (
+      c2 .put-flag4 .ensures,
+      c6 .put-flag3 .ensures,
+      c10 .put-flag2 .ensures,
+      c14 .put-flag .ensures,
+      c18 .put-word2 .ensures,
+      c22 .put-word .ensures,
+      ← (c25 .flag .ensures),
+      c24 .if1 .left,
+    )
 
 pub clear-spec : {M : Type 1} → statement M
 clear-spec =

@@ -1,4 +1,5 @@
--- `mission::clear_wfta` meets its contract. Assumes nothing.
+-- `mission::clear_wfta` meets its contract.
+-- `c2` is what was known two places before `c`. Assumes nothing.
 use Rattle.mission.specs.Mission.{wftaCleared}
 use borrow.Author.Needs.{needs}
 use Rattle.mission.proofs.clear_wfta.Statement.{statement}

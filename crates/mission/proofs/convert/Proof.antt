@@ -1,4 +1,5 @@
--- `mission::convert` meets its contract: four steps, one after the other. Assumes nothing.
+-- `mission::convert` meets its contract: four steps, one after the other.
+-- `c6` is what was known six places before `c`. Assumes nothing.
 use Rattle.mission.specs.Mission.{forced}
 use borrow.Author.Needs.{needs}
 use Rattle.mission.proofs.convert.Statement.{statement}
@@ -44,7 +45,14 @@ returns-2 c =
     let c14 = c10 .before .before .before .before in
     let c16 = c14 .before .before in
     let c17 = c16 .before in
-    rw (c2 .clear-wfta .ensures, c6 .put-flag .ensures, c10 .count-device .ensures, c14 .put-word .ensures, ← (c17 .flag .ensures), c16 .if1 .left)
+    rw (
+      c2 .clear-wfta .ensures,
+      c6 .put-flag .ensures,
+      c10 .count-device .ensures,
+      c14 .put-word .ensures,
+      ← (c17 .flag .ensures),
+      c16 .if1 .left,
+    )
 
 pub convert-spec : {M : Type 1} → statement M
 convert-spec =

@@ -1,4 +1,5 @@
--- `mission::in_range` meets its contract: one test after the other. Assumes nothing.
+-- `mission::in_range` meets its contract: one test after the other.
+-- `c1` is what was known one places before `c`. Assumes nothing.
 use borrow.Author.Tests.{lt-leb, le-leb, le-ltb, lt-ltb}
 use Rattle.mission.specs.Mission.{countersInRange}
 use Rattle.mission.proofs.in_range.Statement.{statement}

@@ -1,4 +1,5 @@
--- `mission::may_start` meets its contract: one test after the other. Assumes nothing.
+-- `mission::may_start` meets its contract: one test after the other.
+-- `c6` is what was known six places before `c`. Assumes nothing.
 use borrow.Author.Tests.{not-true, not-false}
 use Rattle.mission.specs.Mission.{mayStart}
 use borrow.Author.Needs.{needs}
@@ -34,7 +35,14 @@ returns-3 c =
     let c3 = c2 .before in
     let c4 = c3 .before in
     let c5 = c4 .before in
-    simp (← (c5 .flag .ensures), not-false (c5 .flag .result) (c4 .if1 .left), ← (c3 .flag2 .ensures), c2 .if2 .left, ← (c1 .flag3 .ensures), not-true (c1 .flag3 .result) (c .if3 .taken))
+    simp (
+      ← (c5 .flag .ensures),
+      not-false (c5 .flag .result) (c4 .if1 .left),
+      ← (c3 .flag2 .ensures),
+      c2 .if2 .left,
+      ← (c1 .flag3 .ensures),
+      not-true (c1 .flag3 .result) (c .if3 .taken),
+    )
 
 rate-requires : tie.Need-rate-requires
 rate-requires c κs = search needs
@@ -48,7 +56,15 @@ returns-4 c =
     let c4 = c3 .before in
     let c5 = c4 .before in
     let c6 = c5 .before in
-    simp (← (c6 .flag .ensures), not-false (c6 .flag .result) (c5 .if1 .left), ← (c4 .flag2 .ensures), c3 .if2 .left, ← (c2 .flag3 .ensures), not-false (c2 .flag3 .result) (c1 .if3 .left), c .rate .ensures)
+    simp (
+      ← (c6 .flag .ensures),
+      not-false (c6 .flag .result) (c5 .if1 .left),
+      ← (c4 .flag2 .ensures),
+      c3 .if2 .left,
+      ← (c2 .flag3 .ensures),
+      not-false (c2 .flag3 .result) (c1 .if3 .left),
+      c .rate .ensures,
+    )
 
 pub may-start-spec : {M : Type 1} → statement M
 may-start-spec =

@@ -1,4 +1,5 @@
--- `mission::start` meets its contract: four puts, one after the other. Assumes nothing.
+-- `mission::start` meets its contract: four puts, one after the other.
+-- `c6` is what was known six places before `c`. Assumes nothing.
 use borrow.Author.Tests.{not-true, not-false}
 use mathlib.Core.Path.{refl}
 use Rattle.mission.specs.Mission.{started, startedCounters}
@@ -46,7 +47,15 @@ returns-2 c =
     let c19 = c18 .before in
     let may = not-false (c19 .may-start .result) (c18 .if1 .left) in (
       rw (← (c19 .may-start .ensures), may),
-      rw (c2 .put-flag4 .ensures, c6 .put-flag3 .ensures, c10 .put-flag2 .ensures, c14 .put-flag .ensures, c16 .flag .ensures, ← (c19 .may-start .ensures), may),
+      rw (
+        c2 .put-flag4 .ensures,
+        c6 .put-flag3 .ensures,
+        c10 .put-flag2 .ensures,
+        c14 .put-flag .ensures,
+        c16 .flag .ensures,
+        ← (c19 .may-start .ensures),
+        may,
+      ),
     )
 
 pub start-spec : {M : Type 1} → statement M

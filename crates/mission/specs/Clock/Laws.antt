@@ -10,9 +10,10 @@ use lib.Ieee.Fits.{and-l}
 use lib.ListN.{length, getD, set, length-set}
 use lib.Seq.{getD-set-same, getD-set-other}
 use Rattle.calendar.specs.declared.Clock.{Clock}
-use Rattle.image.specs.Fields.{apart}
+use Rattle.image.specs.Fields.{wordAt, apart}
 use Rattle.image.specs.Fields.Laws.{apart-sym, apart-part, byte-set-other}
 use Rattle.image.specs.Keeps.{Run, free, free-part, Keeps, keeps-same, keeps-then}
+use Rattle.image.specs.Registers.{stamp}
 use Rattle.image.specs.Tables.{registerAt}
 use Rattle.mission.specs.Clock.{clockOf, stampOf, putBytes, putClock}
 
@@ -104,3 +105,16 @@ stamp-putClock image c fits =
       back 4 (omega arith),
       back 5 (omega arith),
     )
+
+-- a stamp that is the number 0 is six zeros
+pub stamp-zero : (image : List ℕ) → stamp image ≡ 0
+    → stampOf image ≡ record { seconds = 0; minutes = 0; hours = 0; date = 0; month = 0; year = 0 }
+unfolding stampOf wordAt
+stamp-zero image e =
+    let seconds : getD image 0x0219 0 ≡ 0 = omega arith in
+    let minutes : getD image 0x021A 0 ≡ 0 = omega arith in
+    let hours : getD image 0x021B 0 ≡ 0 = omega arith in
+    let date : getD image 0x021C 0 ≡ 0 = omega arith in
+    let month : getD image 0x021D 0 ≡ 0 = omega arith in
+    let year : getD image 0x021E 0 ≡ 0 = omega arith in
+    rw (seconds, minutes, hours, date, month, year)

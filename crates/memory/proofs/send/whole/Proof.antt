@@ -4,20 +4,17 @@ use Rattle.memory.specs.Send.{sentWhole}
 use Rattle.memory.proofs.send.whole.Statement.{statement}
 use Rattle.memory.proofs.send.whole.Tie as tie
 
-add-requires : tie.Need-add-requires
-add-requires c κs = search needs
-
 enum-told : tie.Need-enum-told
 enum-told c = search needs
 
-to-requires : tie.Need-to-requires
-to-requires c κs = search needs
+count-requires : tie.Need-count-requires
+count-requires c κs = search needs
 
 enum-told-2 : tie.Need-enum-told-2
 enum-told-2 c = search needs
 
-to-requires-2 : tie.Need-to-requires-2
-to-requires-2 c κs = search needs
+count-requires-2 : tie.Need-count-requires-2
+count-requires-2 c κs = search needs
 
 enum-told-3 : tie.Need-enum-told-3
 enum-told-3 c = search needs
@@ -25,8 +22,8 @@ enum-told-3 c = search needs
 cast-offset : tie.Need-cast-offset
 cast-offset c = search needs
 
-to-requires-3 : tie.Need-to-requires-3
-to-requires-3 c κs = search needs
+count-requires-3 : tie.Need-count-requires-3
+count-requires-3 c κs = search needs
 
 enum-known-s : tie.Need-enum-known-s
 enum-known-s c = search needs
@@ -34,11 +31,14 @@ enum-known-s c = search needs
 after-pad-requires : tie.Need-after-pad-requires
 after-pad-requires c κs = search needs
 
-to-requires-4 : tie.Need-to-requires-4
-to-requires-4 c κs = search needs
+count-requires-4 : tie.Need-count-requires-4
+count-requires-4 c κs = search needs
 
 enum-told-4 : tie.Need-enum-told-4
 enum-told-4 c = search needs
+
+add-requires : tie.Need-add-requires
+add-requires c κs = search needs
 
 after-memory-requires : tie.Need-after-memory-requires
 after-memory-requires c κs = search needs
@@ -46,8 +46,8 @@ after-memory-requires c κs = search needs
 enum-known-s-2 : tie.Need-enum-known-s-2
 enum-known-s-2 c = search needs
 
-to-requires-5 : tie.Need-to-requires-5
-to-requires-5 c κs = search needs
+to-requires : tie.Need-to-requires
+to-requires c κs = search needs
 
 enum-known-s-3 : tie.Need-enum-known-s-3
 enum-known-s-3 c = search needs
@@ -57,27 +57,27 @@ after-crc-requires c κs = search needs
 
 returns : tie.Need-returns
 unfolding sentWhole
-returns c = simp (c .to .ensures, c .before .enum-told .given .1, c .before .before .before .add .ensures)
+returns c = simp (c .count .ensures, c .before .enum-told .given .1)
 
 returns-2 : tie.Need-returns-2
 unfolding sentWhole
-returns-2 c = simp (c .to2 .ensures, c .before .enum-told2 .given .1, c .before .before .before .add .ensures)
+returns-2 c = simp (c .count2 .ensures, c .before .enum-told2 .given .1)
 
 returns-3 : tie.Need-returns-3
 unfolding sentWhole
-returns-3 c = simp (c .to3 .ensures, c .before .before .enum-told3 .given .1, c .before .before .before .before .add .ensures)
+returns-3 c = simp (c .count3 .ensures, c .before .before .enum-told3 .given .1)
 
 returns-4 : tie.Need-returns-4
 unfolding sentWhole
-returns-4 c = simp (c .to4 .ensures, c .before .after-pad .ensures, c .before .before .before .s .given .1, c .before .before .before .before .before .add .ensures)
+returns-4 c = simp (c .count4 .ensures, c .before .after-pad .ensures, c .before .before .before .s .given .1)
 
 returns-5 : tie.Need-returns-5
 unfolding sentWhole
-returns-5 c = simp (c .after-memory .ensures, c .before .enum-told4 .given .1, c .before .before .before .add .ensures)
+returns-5 c = simp (c .after-memory .ensures, c .before .add .ensures, c .before .before .enum-told4 .given .1)
 
 returns-6 : tie.Need-returns-6
 unfolding sentWhole
-returns-6 c = simp (c .to5 .ensures, c .before .before .s2 .given .1)
+returns-6 c = simp (c .to .ensures, c .before .before .s2 .given .1)
 
 returns-7 : tie.Need-returns-7
 unfolding sentWhole
@@ -87,21 +87,21 @@ pub whole-spec : {M : Type 1} → statement M
 whole-spec =
     tie.close
     (tie.spec
-    add-requires
     enum-told
-    to-requires
+    count-requires
     enum-told-2
-    to-requires-2
+    count-requires-2
     enum-told-3
     cast-offset
-    to-requires-3
+    count-requires-3
     enum-known-s
     after-pad-requires
-    to-requires-4
+    count-requires-4
     enum-told-4
+    add-requires
     after-memory-requires
     enum-known-s-2
-    to-requires-5
+    to-requires
     enum-known-s-3
     after-crc-requires
     returns

@@ -1,0 +1,13 @@
+-- `dock::registers::rate` meets its contract. Assumes nothing.
+use borrow.Author.Needs.{needs}
+use native.Mathlib.Omega.{arith}
+use Rattle.dock.specs.Registers.{wordAt}
+use Rattle.dock.proofs.registers.rate.Statement.{statement}
+use Rattle.dock.proofs.registers.rate.Tie as tie
+
+returns : tie.Need-returns
+unfolding wordAt
+returns c = omega (arith, c .before .byte-at .ensures, c .byte-at2 .ensures)
+
+pub rate-spec : {M : Type 1} → statement M
+rate-spec = tie.close (tie.spec (λ c κs. search needs) (λ c. search needs) (λ c κs. search needs) (λ c. search needs) (λ c. search needs) (λ c. search needs) returns)

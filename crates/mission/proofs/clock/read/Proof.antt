@@ -1,0 +1,53 @@
+-- `mission::clock::read` meets its contract.
+-- `c1` is what was known one places before `c`. Assumes nothing.
+use Rattle.mission.specs.Clock.{clockOf}
+use borrow.Author.Needs.{needs}
+use Rattle.mission.proofs.clock.read.Statement.{statement}
+use Rattle.mission.proofs.clock.read.Tie as tie
+
+register-requires : tie.Need-register-requires
+register-requires c κs = search needs
+
+register-requires-2 : tie.Need-register-requires-2
+register-requires-2 c κs = search needs
+
+register-requires-3 : tie.Need-register-requires-3
+register-requires-3 c κs = search needs
+
+register-requires-4 : tie.Need-register-requires-4
+register-requires-4 c κs = search needs
+
+register-requires-5 : tie.Need-register-requires-5
+register-requires-5 c κs = search needs
+
+register-requires-6 : tie.Need-register-requires-6
+register-requires-6 c κs = search needs
+
+returns : tie.Need-returns
+unfolding clockOf
+returns c =
+    let c1 = c .before in
+    let c2 = c1 .before in
+    let c3 = c2 .before in
+    let c4 = c3 .before in
+    let c5 = c4 .before in
+    simp (
+      c .register6 .ensures,
+      c1 .register5 .ensures,
+      c2 .register4 .ensures,
+      c3 .register3 .ensures,
+      c4 .register2 .ensures,
+      c5 .register .ensures,
+    )
+
+pub read-spec : {M : Type 1} → statement M
+read-spec =
+    tie.close
+    (tie.spec
+    register-requires
+    register-requires-2
+    register-requires-3
+    register-requires-4
+    register-requires-5
+    register-requires-6
+    returns)

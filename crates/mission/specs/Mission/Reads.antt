@@ -1,0 +1,147 @@
+-- What each part of a conversion puts is read back, in an image of 8,832 bytes. Assumes nothing.
+use mathlib.Core.Path.{_≡_, refl, ap, _∙_}
+use mathlib.Core.Bool.{Bool, true, false, _||_}
+use mathlib.Core.List.{List}
+use mathlib.Core.Logic.{dite}
+use Prim.Native.Nat.{ℕ, _+_, _*_, _/_, _%_, _^_, _<_, min}
+use native.Mathlib.Decide.{ℕ-discrete}
+use native.Mathlib.Omega.{arith}
+use borrow.Author.Tests.{eq-eqb, ne-eqb, ltb-true, ltb-false}
+use lib.Dec.{ltb, eqb}
+use lib.ListN.{length, getD, set, length-set}
+use lib.Seq.{getD-set-same, getD-set-other}
+use Rattle.bits.specs.Choose.{if_then_else_}
+use Rattle.image.specs.Fields.{putWord, putFlag}
+use Rattle.image.specs.Fields.Laws.{word-putWord, word-lt, flag-putFlag}
+use Rattle.image.specs.Keeps.{keeps-putWord, flag-kept}
+use Rattle.image.specs.Registers.{latest, tlfs, thf, tlf, wfta, missionSamples, deviceSamples}
+use Rattle.mission.specs.Clock.{clockOf, stampOf, putClock}
+use Rattle.mission.specs.Clock.Laws.{stamp-kept, stamp-putClock}
+use Rattle.mission.specs.Mission.{deviceCounted, resolved, latestStored, alarmsHigh, alarmsLow, alarms, thfSet, tlfSet, places, logged, entryAt, stamped, counted, wftaCleared}
+use Rattle.mission.specs.Mission.Frames.{leaves-logged, leaves-stamped}
+use Rattle.mission.specs.Mission.Whole.{Whole}
+
+-- an entry of one byte, and one of two, at place q
+one-byte : (image : List ℕ) (q place v : ℕ) → 640 + q < length image
+    → getD (set image (640 + q) v) (640 + place) 0 * 8 ≡ if eqb place q then v * 8 else getD image (640 + place) 0 * 8
+one-byte image q place v fits =
+    dite (ℕ-discrete place q) (λ e. rw (e, eq-eqb q q refl, getD-set-same image (640 + q) v 0 fits))
+    (λ ne. rw (ne-eqb place q ne, getD-set-other image (640 + q) (640 + place) v 0 (omega arith)))
+
+two-bytes : (image : List ℕ) (q place u v : ℕ) → 641 + 2 * q < length image
+    → getD (set (set image (640 + 2 * q) u) (641 + 2 * q) v) (640 + 2 * place) 0 * 8
+    + getD (set (set image (640 + 2 * q) u) (641 + 2 * q) v) (641 + 2 * place) 0 / 32
+    ≡ if eqb place q then u * 8 + v / 32 else getD image (640 + 2 * place) 0 * 8 + getD image (641 + 2 * place) 0 / 32
+two-bytes image q place u v fits =
+    let one = set image (640 + 2 * q) u in
+    dite (ℕ-discrete place q)
+    (λ e.
+    rw (
+      e,
+      eq-eqb q q refl,
+      getD-set-other one (641 + 2 * q) (640 + 2 * q) v 0 (omega arith),
+      getD-set-same image (640 + 2 * q) u 0 (omega arith),
+      getD-set-same one (641 + 2 * q) v 0 (rw (length-set image (640 + 2 * q) u) fits),
+    ))
+    (λ ne.
+    rw (
+      ne-eqb place q ne,
+      getD-set-other one (641 + 2 * q) (640 + 2 * place) v 0 (omega arith),
+      getD-set-other image (640 + 2 * q) (640 + 2 * place) u 0 (omega arith),
+      getD-set-other one (641 + 2 * q) (641 + 2 * place) v 0 (omega arith),
+      getD-set-other image (640 + 2 * q) (641 + 2 * place) u 0 (omega arith),
+    ))
+
+module _ {image : List ℕ} (w : Whole image) where
+  -- ---- counts
+
+  pub device-counted : deviceSamples (deviceCounted image) ≡ min (deviceSamples image + 1) 0xFFFFFF
+  unfolding deviceCounted
+  device-counted = go (ltb (deviceSamples image) 0xFFFFFF) refl
+    where
+      go : (t : Bool) → ltb (deviceSamples image) 0xFFFFFF ≡ t
+          → deviceSamples (if t then putWord image 0x0223 3 (deviceSamples image + 1) else image) ≡ min (deviceSamples image + 1) 0xFFFFFF
+      go true e =
+          let lt = ltb-true (deviceSamples image) 0xFFFFFF e in
+          rw (word-putWord image 0x0223 3 (deviceSamples image + 1) (omega (arith, w .size))) (omega arith)
+      go false e = omega (arith, ltb-false (deviceSamples image) 0xFFFFFF e, word-lt image 0x0223 3 (w .bytes))
+
+  pub mission-counted : missionSamples image < 0xFFFFFF → missionSamples (counted image) ≡ missionSamples image + 1
+  unfolding counted
+  mission-counted lt =
+      rw (word-putWord (stamped image) 0x0220 3 (missionSamples image + 1) (omega (arith, w .size, leaves-stamped image .keeps .lengths)))
+      (omega arith)
+
+  -- ---- the latest reading and the flags
+
+  pub latest-stored : (reading : ℕ) → latest (latestStored image reading) ≡ resolved image (reading % 2048)
+  unfolding latestStored resolved
+  latest-stored reading =
+      rw (word-putWord image 0x020C 2 ((if tlfs image then reading else reading / 8 * 8) * 32) (omega (arith, w .size))) (go (tlfs image))
+    where
+      go : (t : Bool) → (if t then reading else reading / 8 * 8) * 32 % 256 ^ 2 / 32 ≡ if t then reading % 2048 else reading % 2048 / 8 * 8
+      go true = omega arith
+      go false = omega arith
+
+  pub thf-set : (reading : ℕ) → thf (thfSet image reading) ≡ alarmsHigh image reading || thf image
+  unfolding thfSet
+  thf-set reading = go (alarmsHigh image reading)
+    where
+      go : (t : Bool) → thf (if t then putFlag image 0x0214 1 true else image) ≡ t || thf image
+      go true = flag-putFlag image 0x0214 1 true (omega (arith, w .size)) tt
+      go false = refl
+
+  pub tlf-set : (reading : ℕ) → tlf (tlfSet image reading) ≡ alarmsLow image reading || tlf image
+  unfolding tlfSet
+  tlf-set reading = go (alarmsLow image reading)
+    where
+      go : (t : Bool) → tlf (if t then putFlag image 0x0214 0 true else image) ≡ t || tlf image
+      go true = flag-putFlag image 0x0214 0 true (omega (arith, w .size)) tt
+      go false = refl
+
+  pub wfta-cleared : (reading : ℕ) → wfta (wftaCleared image reading) ≡ if alarms image reading then false else wfta image
+  unfolding wftaCleared
+  wfta-cleared reading = go (alarms image reading)
+    where
+      go : (t : Bool) → wfta (if t then putFlag image 0x0215 4 false else image) ≡ if t then false else wfta image
+      go true = flag-putFlag image 0x0215 4 false (omega (arith, w .size)) tt
+      go false = refl
+
+  -- ---- the stamp
+
+  pub stamp-stamped : stampOf (stamped image) ≡ if eqb (missionSamples image) 0 then clockOf image else stampOf image
+  unfolding stamped
+  stamp-stamped = go (eqb (missionSamples image) 0)
+    where
+      go : (t : Bool) → stampOf (if t then putClock image 0x0219 (clockOf image) else image) ≡ if t then clockOf image else stampOf image
+      go true = stamp-putClock image (clockOf image) (omega (arith, w .size))
+      go false = refl
+
+  pub stamp-counted : stampOf (counted image) ≡ if eqb (missionSamples image) 0 then clockOf image else stampOf image
+  unfolding counted
+  stamp-counted = stamp-kept (keeps-putWord (stamped image) 0x0220 3 _) tt ∙ stamp-stamped
+
+  -- ---- the log
+
+  -- entry k is read back at its place, and every other place holds what it held
+  pub entry-logged : (k reading place : ℕ) → place < places image
+      → entryAt (logged image k reading) place
+      ≡ if eqb place (k % places image) then resolved image (reading % 2048) else entryAt image place
+  unfolding logged entryAt places resolved
+  entry-logged k reading place h =
+      rw (flag-kept 0x0213 2 (leaves-logged image k reading .keeps) tt) (by-format (tlfs image) h)
+    where
+      by-format : (t : Bool) → place < (if t then 4096 else 8192)
+          → let q = k % (if t then 4096 else 8192) in
+          let after =
+          if t then set (set image (640 + 2 * q) (reading / 8 % 256)) (641 + 2 * q) (reading % 8 * 32)
+          else set image (640 + q) (reading / 8 % 256) in
+          (if t then getD after (640 + 2 * place) 0 * 8 + getD after (641 + 2 * place) 0 / 32 else getD after (640 + place) 0 * 8)
+          ≡ if eqb place q then (if t then reading % 2048 else reading % 2048 / 8 * 8)
+          else (if t then getD image (640 + 2 * place) 0 * 8 + getD image (641 + 2 * place) 0 / 32 else getD image (640 + place) 0 * 8)
+      by-format true h =
+          two-bytes image (k % 4096) place (reading / 8 % 256) (reading % 8 * 32) (omega (arith, w .size))
+          ∙ ap (λ (n : ℕ). if eqb place (k % 4096) then n else getD image (640 + 2 * place) 0 * 8 + getD image (641 + 2 * place) 0 / 32) (omega arith)
+      by-format false h =
+          one-byte image (k % 8192) place (reading / 8 % 256) (omega (arith, w .size))
+          ∙ ap (λ (n : ℕ). if eqb place (k % 8192) then n else getD image (640 + place) 0 * 8) (omega arith)

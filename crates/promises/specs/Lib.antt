@@ -1,0 +1,5 @@
+pub mod Runs
+pub mod Demand1
+pub mod Line
+pub mod Determinacy
+pub mod Points

@@ -1,0 +1,89 @@
+-- Copy as a whole run: done, it stores with the last bit of the password and sends 0,1,0,1 on; not done, the line is the master's
+-- (document 01, "Memory commands", 99h). Assumes nothing.
+use mathlib.Core.Path.{_≡_, refl, ap, _∙_}
+use mathlib.Core.Bool.{Bool, true, false, _&&_, not}
+use mathlib.Core.List.{List, [], _∷_, _++_, flatMap}
+use Prim.Native.Nat.{ℕ, _+_, _*_, _/_, _%_, _^_, _<_, _≤_}
+use native.Mathlib.Omega.{arith}
+use borrow.Author.Tests.{eq-eqb}
+use lib.Dec.{eqb}
+use lib.ListN.{length, take, drop}
+use lib.Seq.{length-take-le, drop-append-seam}
+use Rattle.bits.specs.Bits.{digit, bitsOf}
+use Rattle.crc.specs.Crc.{crc16Run}
+use Rattle.exchange.specs.Runs.{run, quietly, commanding, chosen}
+use Rattle.exchange.specs.Runs.Laws.{run-nil, quiet-then}
+use Rattle.exchange.specs.Runs.Commands.{lastly, field-gathered, field-quiet, run-over}
+use Rattle.memory.specs.declared.Addressed.{Addressed}
+use Rattle.memory.specs.declared.Bus.{Bus}
+use Rattle.memory.specs.declared.Deed.{Deed}
+use Rattle.memory.specs.declared.Guarded.{Guarded}
+use Rattle.memory.specs.declared.Hearing.{Hearing}
+use Rattle.memory.specs.declared.Held.{Held}
+use Rattle.memory.specs.declared.Question.{Question}
+use Rattle.memory.specs.declared.Stage.{Stage}
+use Rattle.memory.specs.Bus.{goTo, noting, listens, statusByte}
+use Rattle.memory.specs.Hear.{commandStage, addressHeard, heardWhole}
+use Rattle.memory.specs.Field.{asHeld, toTheEnd, copies, accepted, judged}
+use Rattle.memory.specs.Runs.{slotsOf}
+use Rattle.memory.specs.Runs.Scratchpad.{overAt}
+use Rattle.promises.specs.Line.Commands.{slots-join, heard-then, head-run}
+
+-- 99h, TA1, TA2, E/S
+abbrev pub copyHead : ℕ → ℕ → List ℕ
+copyHead address status = 0x99 ∷ address % 256 ∷ address / 256 ∷ status ∷ []
+
+-- the bus after it, with the address and E/S as sent
+abbrev pub copyBus : ℕ → ℕ → Bus
+copyBus address status = noting (overAt (crc16Run 0 (0x99 ∷ address % 256 ∷ address / 256 ∷ [])) address) status
+
+module _ (answers : Question → ℕ) (number : ℕ) (mark : Bool) (held : Held) where
+  pub copy-head : (address status : ℕ) → address < 65536 → status < 256 →
+      run answers (chosen number mark held) (slotsOf (copyHead address status)) ≡
+      quietly (commanding number mark held (goTo (copyBus address status) (Stage.Gathers Guarded.Copying))) (slotsOf (copyHead address status))
+  unfolding commandStage addressHeard heardWhole flatMap
+  copy-head address status fits small =
+      let head : List ℕ = 0x99 ∷ address % 256 ∷ address / 256 ∷ [] in
+      let start = overAt (crc16Run 0 head) address in
+      rw (slots-join head (status ∷ []))
+      (quiet-then answers _ (slotsOf head) _
+      (head-run answers number mark held Addressed.Copy (Stage.Hears Hearing.Status) 0x99 address (omega arith) fits refl (λ bus. refl))
+      (heard-then answers number mark Hearing.Status held start status [] small refl (run-nil answers _)))
+
+  -- "Done exactly if ..": with the last bit of the password a Store, and AA is set
+  pub copy-field : (bus : Bus) (field : ℕ) → field < 2 ^ 64 → copies held bus (eqb (answers (Question.MayCopy field (bus .address))) 1) ≡ true →
+      run answers (commanding number mark held (goTo bus (Stage.Gathers Guarded.Copying))) (bitsOf 64 field) ≡
+      lastly number mark 63 (listens (accepted held) (goTo bus Stage.Copied) Deed.Store) (bitsOf 64 field)
+  unfolding judged copies asHeld
+  copy-field bus field fits done = field-gathered answers number mark held bus Guarded.Copying field fits ∙ rw done
+
+  -- else nothing
+  pub copy-other : (bus : Bus) (field : ℕ) (bits : List Bool) → field < 2 ^ 64 → copies held bus (eqb (answers (Question.MayCopy field (bus .address))) 1) ≡ false →
+      run answers (commanding number mark held (goTo bus (Stage.Gathers Guarded.Copying))) (bitsOf 64 field ++ bits) ≡
+      quietly (commanding number mark held (goTo bus Stage.Over)) (bitsOf 64 field ++ bits)
+  unfolding judged copies asHeld
+  copy-other bus field bits fits undone =
+      quiet-then answers _ (bitsOf 64 field) bits
+      (rw undone at (field-quiet answers number mark held bus Guarded.Copying field fits refl (rw undone)))
+      (run-over answers number mark held bus bits)
+
+-- the three as they are held, up to the page's end, and a password that may copy there
+pub copies-right : (held : Held) {may : Bool} → held .ending ≡ 0x1F → held .pf ≡ false → may ≡ true →
+    copies held (copyBus (held .ta) (statusByte held)) may ≡ true
+unfolding copies asHeld toTheEnd
+copies-right held full whole may = simp (eq-eqb (held .ta) (held .ta) refl, eq-eqb (statusByte held) (statusByte held) refl, full, whole, may)
+
+-- E/S is a byte
+pub status-lt : (held : Held) → statusByte held < 256
+unfolding statusByte
+status-lt held = omega (arith, digit-le (held .aa), digit-le (held .pf))
+  where
+    digit-le : (b : Bool) → digit b ≤ 1
+    digit-le true = omega arith
+    digit-le false = omega arith
+
+-- of a scratchpad that was filled from an address's offset on, the bytes from there on
+pub rest-of-page : (pad : List ℕ) (address : ℕ) (bytes : List ℕ) → length pad ≡ 32 → drop (address % 32) (take (address % 32) pad ++ bytes) ≡ bytes
+rest-of-page pad address bytes long =
+    let first : length (take (address % 32) pad) ≡ address % 32 = length-take-le (address % 32) pad (omega arith) in
+    rw first at (drop-append-seam (take (address % 32) pad) bytes)

@@ -1,0 +1,156 @@
+-- Slots of a tag one after the other, with no tick in between: over an image that stays, they are the exchange's run with the
+-- image's answers. Assumes nothing.
+use mathlib.Core.Path.{_≡_, refl, sym, ap, _∙_}
+use mathlib.Core.Bool.{Bool, true, false}
+use mathlib.Core.List.{List, [], _∷_, _++_, map, append-assoc}
+use Prim.Native.Nat.{ℕ, zero, suc}
+use lib.ListN.{replicate}
+use Rattle.exchange.specs.declared.Exchange.{Exchange}
+use Rattle.exchange.specs.Exchange.{afterReset as exchange-reset, slotOf, asks}
+use Rattle.exchange.specs.Runs as exchange
+use Rattle.exchange.specs.Runs.Laws.{quiet-then}
+use Rattle.exchange.specs.Runs.Choosing.{run-way}
+use Rattle.memory.specs.declared.Deed.{Deed}
+use Rattle.memory.specs.declared.Question.{Question}
+use Rattle.tag.specs.declared.Tag.{Tag}
+use Rattle.tag.specs.Tag.{answerTo, performed, performedCounters, slotted}
+
+-- a tag's record and its lent image
+pub record State : Type 0 where
+  pub image : List ℕ
+  pub tag : Tag
+
+-- what slots give: the line's bits, and the tag after them
+pub record Ran : Type 0 where
+  pub line : List Bool
+  pub state : State
+
+-- the slots with these bits of the master, one after the other
+unfoldable pub slots : State → List Bool → Ran
+slots s [] = record { line = []; state = s }
+slots s (bit ∷ bits) =
+    let out = slotted (s .image) (s .tag) bit in
+    let rest = slots (record { image = out .image; tag = out .answered .tag }) bits in
+    record { line = out .answered .line ∷ rest .line; state = rest .state }
+
+-- the tag with another exchange, and after a deed that leaves this exchange
+abbrev pub withExchange : State → Exchange → State
+withExchange s x =
+    record { image = s .image; tag = record { code = s .tag .code; counters = s .tag .counters; exchange = x } }
+
+abbrev pub afterDeed : Deed → State → Exchange → State
+afterDeed deed s x =
+    record {
+      image = performed deed x (s .tag .counters) (s .image);
+      tag = record { code = s .tag .code; counters = performedCounters deed (s .tag .counters) (s .image); exchange = x };
+    }
+
+-- just after a reset
+abbrev pub afterReset : State → State
+afterReset s = withExchange s (exchange-reset (s .tag .exchange))
+
+-- what the image answers
+abbrev pub answersOf : State → Question → ℕ
+answersOf s question = answerTo (s .image) (s .tag .code) question
+
+-- ---- joining
+
+pub slots-append : (s : State) (bits more : List Bool) →
+    slots s (bits ++ more) ≡
+    record { line = slots s bits .line ++ slots (slots s bits .state) more .line; state = slots (slots s bits .state) more .state }
+unfolding slots
+slots-append s [] more = refl
+slots-append s (bit ∷ bits) more =
+    let out = slotted (s .image) (s .tag) bit in
+    let next : State = record { image = out .image; tag = out .answered .tag } in
+    ap (λ (r : Ran). record { line = out .answered .line ∷ r .line; state = r .state }) (slots-append next bits more)
+
+pub slots-then : (s : State) (bits more : List Bool) {line rest : List Bool} {t u : State} →
+    slots s bits ≡ record { line = line; state = t } → slots t more ≡ record { line = rest; state = u } →
+    slots s (bits ++ more) ≡ record { line = line ++ rest; state = u }
+slots-then s bits more p q = slots-append s bits more ∙ rw (p, q)
+
+-- ---- the exchange's run
+
+-- nothing is done but with the last of these slots, and with it this
+unfoldable pub Ends : Deed → List Deed → Type 0
+Ends deed [] = Deed.Nothing ≡ deed
+Ends deed (d ∷ []) = d ≡ deed
+Ends deed (d ∷ e ∷ es) = (d ≡ Deed.Nothing) × Ends deed (e ∷ es)
+
+ends-quiet : (line : List Bool) → Ends Deed.Nothing (map (λ bit. Deed.Nothing) line)
+unfolding Ends
+ends-quiet [] = refl
+ends-quiet (bit ∷ []) = refl
+ends-quiet (bit ∷ b ∷ bs) = (refl, ends-quiet (b ∷ bs))
+
+ends-lastly : (n : ℕ) (deed : Deed) → Ends deed (replicate n Deed.Nothing ++ (deed ∷ []))
+unfolding Ends
+ends-lastly zero deed = refl
+ends-lastly (suc zero) deed = (refl, refl)
+ends-lastly (suc (suc n)) deed = (refl, ends-lastly (suc n) deed)
+
+slots-run : (s : State) (bits : List Bool) (deed : Deed) →
+    let ran = exchange.run (answersOf s) (s .tag .exchange) bits in
+    Ends deed (ran .deeds) → slots s bits ≡ record { line = ran .line; state = afterDeed deed s (ran .exchange) }
+unfolding slots exchange.run Ends slotted performed performedCounters
+slots-run s [] deed e = rw (← e)
+slots-run s (bit ∷ []) deed e = rw e
+slots-run s (bit ∷ b ∷ bs) deed e =
+    let slot = slotOf (s .tag .exchange) bit (answersOf s (asks (s .tag .exchange) bit)) in
+    rw (e .0)
+    (ap (λ (r : Ran). record { line = slot .line ∷ r .line; state = r .state }) (slots-run (withExchange s (slot .exchange)) (b ∷ bs) deed (e .1)))
+
+-- a run that does nothing leaves image and counters
+pub slots-quiet : (s : State) (bits : List Bool) {x : Exchange} {line : List Bool} →
+    exchange.run (answersOf s) (s .tag .exchange) bits ≡ exchange.quietly x line →
+    slots s bits ≡ record { line = line; state = withExchange s x }
+unfolding performed performedCounters
+slots-quiet s bits {x} {line} e =
+    rw e at (slots-run s bits Deed.Nothing (rw e (ends-quiet line)))
+
+-- one that does something with its last slot
+pub slots-lastly : (s : State) (bits : List Bool) (n : ℕ) (deed : Deed) {x : Exchange} {line : List Bool} →
+    exchange.run (answersOf s) (s .tag .exchange) bits ≡ record { exchange = x; line = line; deeds = replicate n Deed.Nothing ++ (deed ∷ []) } →
+    slots s bits ≡ record { line = line; state = afterDeed deed s x }
+slots-lastly s bits n deed e =
+    rw e at (slots-run s bits deed (rw e (ends-lastly n deed)))
+
+-- ---- after a reset
+
+-- the tag's number, and the tag chosen in this way: a memory command comes next
+abbrev pub numberOf : State → ℕ
+numberOf s = s .tag .exchange .number
+
+abbrev pub chosenBy : exchange.Way → State → Exchange
+chosenBy way s = exchange.chosen (numberOf s) (exchange.wayMark way) (s .tag .exchange .held)
+
+-- a reset, and these slots after it
+abbrev pub session : State → List Bool → Ran
+session s bits = slots (afterReset s) bits
+
+-- a ROM command chooses the tag
+pub session-way : (s : State) (way : exchange.Way) →
+    session s (exchange.waySlots way (numberOf s)) ≡ record { line = exchange.wayLine way (numberOf s); state = withExchange s (chosenBy way s) }
+session-way s way =
+    slots-quiet (afterReset s) (exchange.waySlots way (numberOf s)) (run-way (answersOf s) (s .tag .exchange) way)
+
+-- and what does nothing after it
+pub session-quiet : (s : State) (way : exchange.Way) (bits : List Bool) {x : Exchange} {line : List Bool} →
+    exchange.run (answersOf s) (chosenBy way s) bits ≡ exchange.quietly x line →
+    session s (exchange.waySlots way (numberOf s) ++ bits) ≡
+    record { line = exchange.wayLine way (numberOf s) ++ line; state = withExchange s x }
+session-quiet s way bits e =
+    let x = s .tag .exchange in
+    slots-quiet (afterReset s) (exchange.waySlots way (numberOf s) ++ bits)
+    (quiet-then (answersOf s) (exchange-reset x) (exchange.waySlots way (x .number)) bits (run-way (answersOf s) x way) e)
+
+-- and after that anything
+pub session-then : (s : State) (way : exchange.Way) (bits more : List Bool) {x : Exchange} {line rest : List Bool} {t : State} →
+    exchange.run (answersOf s) (chosenBy way s) bits ≡ exchange.quietly x line →
+    slots (withExchange s x) more ≡ record { line = rest; state = t } →
+    session s (exchange.waySlots way (numberOf s) ++ (bits ++ more)) ≡
+    record { line = exchange.wayLine way (numberOf s) ++ (line ++ rest); state = t }
+session-then s way bits more {x} {line} {rest} p q =
+    rw (← append-assoc (exchange.waySlots way (numberOf s)) bits more, ← append-assoc (exchange.wayLine way (numberOf s)) line rest)
+    (slots-then (afterReset s) (exchange.waySlots way (numberOf s) ++ bits) more (session-quiet s way bits p) q)

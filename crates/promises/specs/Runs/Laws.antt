@@ -1,0 +1,155 @@
+-- What lifts from one event to a run: an invariant, and a relation between two runs side by side; and the two that every reached
+-- state has. Assumes nothing.
+use mathlib.Core.Path.{_≡_, refl, ap, _∙_}
+use mathlib.Core.Bool.{Bool, true}
+use mathlib.Core.List.{List, [], _∷_, _++_}
+use mathlib.Core.Bool.{false}
+use Prim.Native.Nat.{ℕ, _≤_, _<_}
+use borrow.Author.Tests.{lt-ltb, le-ltb}
+use lib.ListN.{length}
+use Rattle.answer.specs.declared.Answer.{Answer}
+use Rattle.bits.specs.Bits.{digit}
+use Rattle.tag.specs.Tag.{tagInRange, refusal, newTag, slotted, resetTag, tickTag, eventOf}
+use Rattle.tag.specs.Tag.Laws.{new-good, new-made, length-new, new-in-range, length-step, step-in-range, step-taken}
+use Rattle.promises.specs.Runs.{State, Event, codeOf, readingOf, leaves, happens, after, lineBit, Accepts, Ran, run, Reached, Always, Together}
+
+-- ---- an invariant of one event is one of every run
+
+pub invariant : (I : State → Type 0) (P : State → Event → Type 0) →
+    ((s : State) (e : Event) → I s → P s e → I (after s e)) →
+    (s : State) (es : List Event) → I s → Always P s es → I (run s es .state)
+unfolding run Always
+invariant I P keeps s [] i always = i
+invariant I P keeps s (e ∷ es) i always = invariant I P keeps (after s e) es (keeps s e i (always .0)) (always .1)
+
+-- and holds at each of its places
+pub invariant-always : (I : State → Type 0) (P : State → Event → Type 0) →
+    ((s : State) (e : Event) → I s → P s e → I (after s e)) →
+    (s : State) (es : List Event) → I s → Always P s es → Always (λ u e. I u × P u e) s es
+unfolding Always
+invariant-always I P keeps s [] i always = tt
+invariant-always I P keeps s (e ∷ es) i always =
+    ((i, always .0), invariant-always I P keeps (after s e) es (keeps s e i (always .0)) (always .1))
+
+-- ---- a relation that two events keep, with equal line bits, is one of two runs
+
+pub relation : (R : State → State → Type 0) (P : State → Event → State → Event → Type 0) →
+    ((s : State) (e : Event) (t : State) (f : Event) → R s t → P s e t f → (lineBit s e ≡ lineBit t f) × R (after s e) (after t f)) →
+    (s : State) (es : List Event) (t : State) (fs : List Event) → R s t → Together P s es t fs →
+    (run s es .line ≡ run t fs .line) × R (run s es .state) (run t fs .state)
+unfolding run Together
+relation R P keeps s [] t [] r together = (refl, r)
+relation R P keeps s [] t (f ∷ fs) r together = absurd together
+relation R P keeps s (e ∷ es) t [] r together = absurd together
+relation R P keeps s (e ∷ es) t (f ∷ fs) r together =
+    let next = keeps s e t f r (together .0) in
+    let rest = relation R P keeps (after s e) es (after t f) fs (next .1) (together .1) in
+    (λ i. next .0 i ∷ rest .0 i, rest .1)
+
+-- ---- what holds at each place, by parts
+
+pub always-map : {P Q : State → Event → Type 0} → ((s : State) (e : Event) → P s e → Q s e) →
+    (s : State) (es : List Event) → Always P s es → Always Q s es
+unfolding Always
+always-map f s [] always = tt
+always-map f s (e ∷ es) always = (f s e (always .0), always-map f (after s e) es (always .1))
+
+-- two runs side by side have what each has, and what both have
+pub together-with : (P Q : State → Event → Type 0) (R S : State → Event → State → Event → Type 0) →
+    (s : State) (es : List Event) (t : State) (fs : List Event) →
+    Always P s es → Always Q t fs → Together R s es t fs → Together S s es t fs →
+    Together (λ u e v f. P u e × Q v f × R u e v f × S u e v f) s es t fs
+unfolding Always Together
+together-with P Q R S s [] t [] p q r z = tt
+together-with P Q R S s [] t (f ∷ fs) p q r z = absurd r
+together-with P Q R S s (e ∷ es) t [] p q r z = absurd r
+together-with P Q R S s (e ∷ es) t (f ∷ fs) p q r z =
+    ((p .0, q .0, r .0, z .0), together-with P Q R S (after s e) es (after t f) fs (p .1) (q .1) (r .1) (z .1))
+
+-- ---- one run and then another
+
+abbrev follows : Ran → Ran → Ran
+follows first rest = record { line = first .line ++ rest .line; state = rest .state }
+
+pub run-append : (s : State) (es fs : List Event) → run s (es ++ fs) ≡ follows (run s es) (run (run s es .state) fs)
+unfolding run
+run-append s [] fs = refl
+run-append s (e ∷ es) fs =
+    ap (λ (rest : Ran). record { line = lineBit s e ∷ rest .line; state = rest .state }) (run-append (after s e) es fs)
+
+-- ---- every reached state has an image of 8,832 bytes and a record in its ranges
+
+pub record Sound (s : State) : Type 0 where
+  pub size : length (s .image) ≡ 8832
+  pub ranges : tagInRange (s .tag) ≡ true
+
+pub sound-after : {s : State} (e : Event) → Sound s → Sound (after s e)
+unfolding after
+sound-after {s} e sound =
+    record {
+      size = length-step (s .image) (s .tag) (codeOf e) (readingOf e) ∙ sound .size;
+      ranges = step-in-range (s .image) (s .tag) (codeOf e) (readingOf e) (sound .ranges);
+    }
+
+pub sound-run : {s : State} (es : List Event) → Sound s → Sound (run s es .state)
+unfolding run
+sound-run [] sound = sound
+sound-run (e ∷ es) sound = sound-run es (sound-after e sound)
+
+sound-new : (image : List ℕ) (number code : ℕ) → newTag image number code .answered .answer ≡ Answer.Accepted →
+    Sound (leaves (newTag image number code))
+sound-new image number code e =
+    let good = new-good image number code e in
+    rw (new-made image number code (good .0) (good .1) (good .2))
+    (record { size = length-new 8832; ranges = new-in-range number code (good .1) (good .2) })
+
+pub reached-sound : {s : State} → Reached s → Sound s
+reached-sound (Reached.new image number code e) = sound-new image number code e
+reached-sound (Reached.event e before accepted) = sound-after e (reached-sound before)
+
+-- ---- what each event does in such a state
+
+module _ {s : State} (sound : Sound s) where
+  pub slot-happens : (bit : Bool) → happens s (Event.slot bit) ≡ slotted (s .image) (s .tag) bit
+  unfolding eventOf
+  slot-happens bit = step-taken (s .image) (s .tag) (digit bit) 0 (sound .size) (sound .ranges) ∙ by bit
+    where
+      by : (bit : Bool) → eventOf (s .image) (s .tag) (digit bit) 0 ≡ slotted (s .image) (s .tag) bit
+      by true = refl
+      by false = refl
+
+  pub reset-happens : happens s Event.reset ≡ resetTag (s .image) (s .tag)
+  unfolding eventOf
+  reset-happens = step-taken (s .image) (s .tag) 2 0 (sound .size) (sound .ranges)
+
+  pub tick-happens : (reading : ℕ) → reading ≤ 2047 → happens s (Event.tick reading) ≡ tickTag (s .image) (s .tag) reading
+  unfolding eventOf
+  tick-happens reading small =
+      step-taken (s .image) (s .tag) 3 reading (sound .size) (sound .ranges) ∙ rw (le-ltb 2047 reading small)
+
+  -- a tick with a reading above 2047 is refused
+  pub tick-refused : (reading : ℕ) → 2047 < reading → happens s (Event.tick reading) ≡ refusal Answer.Reading (s .tag) (s .image)
+  unfolding eventOf
+  tick-refused reading high =
+      step-taken (s .image) (s .tag) 3 reading (sound .size) (sound .ranges) ∙ rw (lt-ltb 2047 reading high)
+
+-- ---- which events are accepted
+
+-- slots, resets, and ticks with a valid reading
+abbrev pub Valid : Event → Type 0
+Valid (Event.slot bit) = Unit {0}
+Valid Event.reset = Unit {0}
+Valid (Event.tick reading) = reading ≤ 2047
+
+pub sound-accepts : {s : State} → Sound s → (e : Event) → Valid e → Accepts s e
+unfolding Accepts slotted resetTag tickTag
+sound-accepts sound (Event.slot bit) valid = rw (slot-happens sound bit)
+sound-accepts sound Event.reset valid = rw (reset-happens sound)
+sound-accepts sound (Event.tick reading) valid = rw (tick-happens sound reading valid)
+
+-- what valid events lead to from a reached state is reached
+pub reached-run : {s : State} (es : List Event) → Reached s → Always (λ u e. Valid e) s es → Reached (run s es .state)
+unfolding run Always
+reached-run [] r valid = r
+reached-run (e ∷ es) r valid =
+    reached-run es (Reached.event e r (sound-accepts (reached-sound r) e (valid .0))) (valid .1)

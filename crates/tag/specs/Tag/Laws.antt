@@ -1,0 +1,298 @@
+-- What every call of the tag answers and leaves: the image's length, the record's ranges, and after a refusal all that it was
+-- given. Assumes nothing.
+use mathlib.Core.Path.{_≡_, refl, ap, _∙_}
+use mathlib.Core.Bool.{Bool, true, false, not, _&&_, and-eq-true-iff}
+use mathlib.Core.List.{List}
+use mathlib.Core.Logic.{_≢_}
+use Prim.Native.Nat.{ℕ, _≤_, _<_}
+use native.Mathlib.Omega.{arith}
+use borrow.Author.Tests.{eq-eqb, eqb-true, eqb-false, ltb-false, lt-ltb}
+use lib.Dec.{eqb, ltb}
+use lib.ListN.{length, replicate, length-set, length-replicate}
+use Rattle.answer.specs.Answer.{answerNumber}
+use Rattle.answer.specs.declared.Answer.{Answer}
+use Rattle.bits.specs.Choose.{if_then_else_}
+use Rattle.exchange.specs.declared.Exchange.{Exchange}
+use Rattle.exchange.specs.Exchange as exchange
+use Rattle.exchange.specs.Exchange.Laws as exchange-laws
+use Rattle.image.specs.Stored.{storedPage}
+use Rattle.image.specs.Stored.Laws.{length-storedRun}
+use Rattle.memory.specs.declared.Deed.{Deed}
+use Rattle.mission.specs.declared.Counters.{Counters}
+use Rattle.mission.specs.Mission as mission
+use Rattle.mission.specs.Mission.Frames.{leaves-cleared, leaves-started, leaves-stopped, leaves-forced, leaves-ticked}
+use Rattle.mission.specs.Mission.Ranges.{range-ticked, range-started}
+use Rattle.tag.specs.declared.Tag.{Tag}
+use Rattle.tag.specs.Tag.{Outcome, goodNumber, goodCode, tagInRange, freshTag, accepted, refusal, newImage, newTag, answerTo, performed, performedCounters, slotted, resetTag, tickTag, eventOf, step}
+
+-- ---- which answer
+
+-- an event's own answer: "1 event code above 3", "2 tick with a reading above 2047"
+unfoldable pub eventAnswer : ℕ → ℕ → Answer
+eventAnswer code reading =
+    if ltb 3 code then Answer.EventCode
+    else if eqb code 3 && ltb 2047 reading then Answer.Reading
+    else Answer.Accepted
+
+-- "Order: event 3, 6, 1, 2"
+unfoldable pub stepAnswer : List ℕ → Tag → ℕ → ℕ → Answer
+stepAnswer image tag code reading =
+    if not (eqb (length image) 8832) then Answer.ImageLength
+    else if not (tagInRange tag) then Answer.RecordRange
+    else eventAnswer code reading
+
+-- a number other than 0 is a refusal's
+not-accepted : (answer : Answer) → 0 < answerNumber answer → answer ≢ Answer.Accepted
+not-accepted answer h e = let none : answerNumber answer ≡ 0 = ap answerNumber e in omega arith
+
+-- what holds of a slot, a reset, a tick with a reading and the two refusals holds of every event, with its own answer
+event-cases : (P : Outcome → Answer → Type 0) (image : List ℕ) (tag : Tag) (code reading : ℕ) →
+    ((bit : Bool) → P (slotted image tag bit) Answer.Accepted) →
+    P (resetTag image tag) Answer.Accepted →
+    (reading ≤ 2047 → P (tickTag image tag reading) Answer.Accepted) →
+    P (refusal Answer.EventCode tag image) Answer.EventCode →
+    P (refusal Answer.Reading tag image) Answer.Reading →
+    P (eventOf image tag code reading) (eventAnswer code reading)
+unfolding eventOf eventAnswer
+event-cases P image tag code reading slots reset tick above over =
+    by (eqb code 0) (eqb code 1) (eqb code 2) (eqb code 3) (ltb 2047 reading) refl refl refl refl refl
+  where
+    by : (zero one two three high : Bool) →
+        eqb code 0 ≡ zero → eqb code 1 ≡ one → eqb code 2 ≡ two → eqb code 3 ≡ three → ltb 2047 reading ≡ high →
+        P (if zero then slotted image tag false
+        else if one then slotted image tag true
+        else if two then resetTag image tag
+        else if not three then refusal Answer.EventCode tag image
+        else if high then refusal Answer.Reading tag image
+        else tickTag image tag reading)
+        (if ltb 3 code then Answer.EventCode else if three && high then Answer.Reading else Answer.Accepted)
+    by true one two three high p q r s t = rw (← s, eqb-true code 0 p) (slots false)
+    by false true two three high p q r s t = rw (← s, eqb-true code 1 q) (slots true)
+    by false false true three high p q r s t = rw (← s, eqb-true code 2 r) reset
+    by false false false true true p q r s t = rw (eqb-true code 3 s) over
+    by false false false true false p q r s t = rw (eqb-true code 3 s) (tick (ltb-false 2047 reading t))
+    by false false false false high p q r s t =
+        rw (lt-ltb 3 code (omega (arith, eqb-false code 0 p, eqb-false code 1 q, eqb-false code 2 r, eqb-false code 3 s))) above
+
+-- and with the two refusals that look at image and record first, of every call
+step-cases : (P : Outcome → Answer → Type 0) (image : List ℕ) (tag : Tag) (code reading : ℕ) →
+    ((bit : Bool) → P (slotted image tag bit) Answer.Accepted) →
+    P (resetTag image tag) Answer.Accepted →
+    (reading ≤ 2047 → P (tickTag image tag reading) Answer.Accepted) →
+    ((answer : Answer) → answer ≢ Answer.Accepted → P (refusal answer tag image) answer) →
+    P (step image tag code reading) (stepAnswer image tag code reading)
+unfolding step stepAnswer
+step-cases P image tag code reading slots reset tick refused = by (eqb (length image) 8832) (tagInRange tag)
+  where
+    by : (whole inRange : Bool) →
+        P (if not whole then refusal Answer.ImageLength tag image
+        else if not inRange then refusal Answer.RecordRange tag image
+        else eventOf image tag code reading)
+        (if not whole then Answer.ImageLength else if not inRange then Answer.RecordRange else eventAnswer code reading)
+    by false inRange = refused Answer.ImageLength (not-accepted Answer.ImageLength (omega arith))
+    by true false = refused Answer.RecordRange (not-accepted Answer.RecordRange (omega arith))
+    by true true =
+        event-cases P image tag code reading slots reset tick
+        (refused Answer.EventCode (not-accepted Answer.EventCode (omega arith)))
+        (refused Answer.Reading (not-accepted Answer.Reading (omega arith)))
+
+-- the number of every call
+pub step-answer : (image : List ℕ) (tag : Tag) (code reading : ℕ) →
+    step image tag code reading .answered .answer ≡ stepAnswer image tag code reading
+unfolding slotted resetTag tickTag
+step-answer image tag code reading =
+    step-cases (λ o a. o .answered .answer ≡ a) image tag code reading (λ bit. refl) refl (λ small. refl) (λ answer no. refl)
+
+-- of an image of 8,832 bytes and a record in its ranges it is 0, 1 or 2, by the event's own code and reading
+pub step-taken : (image : List ℕ) (tag : Tag) (code reading : ℕ) → length image ≡ 8832 → tagInRange tag ≡ true →
+    step image tag code reading ≡ eventOf image tag code reading
+unfolding step
+step-taken image tag code reading whole inRange = rw (eq-eqb (length image) 8832 whole, inRange)
+
+pub answer-taken : (image : List ℕ) (tag : Tag) (code reading : ℕ) → length image ≡ 8832 → tagInRange tag ≡ true →
+    step image tag code reading .answered .answer ≡ eventAnswer code reading
+unfolding stepAnswer
+answer-taken image tag code reading whole inRange =
+    step-answer image tag code reading ∙ rw (eq-eqb (length image) 8832 whole, inRange)
+
+-- ---- a refusal
+
+-- "A refusal returns bit 1, the record as given .. and no lent byte .. changed"
+pub step-refused : (image : List ℕ) (tag : Tag) (code reading : ℕ) → step image tag code reading .answered .answer ≢ Answer.Accepted →
+    step image tag code reading ≡ refusal (step image tag code reading .answered .answer) tag image
+unfolding slotted resetTag tickTag
+step-refused image tag code reading =
+    step-cases (λ o a. o .answered .answer ≢ Answer.Accepted → o ≡ refusal (o .answered .answer) tag image) image tag code reading
+    (λ bit refused. absurd (refused refl))
+    (λ refused. absurd (refused refl))
+    (λ small refused. absurd (refused refl))
+    (λ answer is-one refused. refl)
+
+-- ---- the image's length
+
+length-performed : (deed : Deed) (x : Exchange) (c : Counters) (image : List ℕ) → length (performed deed x c image) ≡ length image
+unfolding performed storedPage
+length-performed Deed.Nothing x c image = refl
+length-performed Deed.Store x c image = length-storedRun image _ _
+length-performed Deed.Clear x c image = leaves-cleared image .keeps .lengths
+length-performed Deed.Start x c image = leaves-started image .keeps .lengths
+length-performed Deed.Stop x c image = leaves-stopped image .keeps .lengths
+length-performed Deed.Convert x c image = leaves-forced image c .keeps .lengths
+
+pub length-step : (image : List ℕ) (tag : Tag) (code reading : ℕ) → length (step image tag code reading .image) ≡ length image
+unfolding slotted resetTag tickTag
+length-step image tag code reading =
+    step-cases (λ o a. length (o .image) ≡ length image) image tag code reading
+    (λ bit. length-performed _ _ (tag .counters) image)
+    refl
+    (λ small. leaves-ticked image (tag .counters) reading .keeps .lengths)
+    (λ answer refused. refl)
+
+-- ---- the record's ranges
+
+-- the ranges one by one
+pub record Ranges (tag : Tag) : Type 0 where
+  pub number : goodNumber (tag .exchange .number) ≡ true
+  pub code : goodCode (tag .code) ≡ true
+  pub counters : mission.countersInRange (tag .counters) ≡ true
+  pub line : exchange.exchangeInRange (tag .exchange) ≡ true
+
+pub ranges-of : (tag : Tag) → tagInRange tag ≡ true → Ranges tag
+unfolding tagInRange
+ranges-of tag e =
+    let good = goodNumber (tag .exchange .number) in
+    let known = goodCode (tag .code) in
+    let counted = mission.countersInRange (tag .counters) in
+    let three = and-eq-true-iff (good && known && counted) (exchange.exchangeInRange (tag .exchange)) .0 e in
+    let two = and-eq-true-iff (good && known) counted .0 (three .0) in
+    let one = and-eq-true-iff good known .0 (two .0) in
+    record { number = one .0; code = one .1; counters = two .1; line = three .1 }
+
+pub in-ranges : (tag : Tag) → Ranges tag → tagInRange tag ≡ true
+unfolding tagInRange
+in-ranges tag r = rw (r .number, r .code, r .counters, r .line)
+
+performed-in-range : (deed : Deed) (c : Counters) (image : List ℕ) → mission.countersInRange c ≡ true →
+    mission.countersInRange (performedCounters deed c image) ≡ true
+unfolding performedCounters
+performed-in-range Deed.Nothing c image r = r
+performed-in-range Deed.Store c image r = r
+performed-in-range Deed.Clear c image r = r
+performed-in-range Deed.Start c image r = range-started image c r
+performed-in-range Deed.Stop c image r = r
+performed-in-range Deed.Convert c image r = r
+
+-- "none reached from a new tag by events" breaks them
+pub step-in-range : (image : List ℕ) (tag : Tag) (code reading : ℕ) → tagInRange tag ≡ true →
+    tagInRange (step image tag code reading .answered .tag) ≡ true
+unfolding slotted resetTag tickTag
+step-in-range image tag code reading h =
+    step-cases (λ o a. tagInRange (o .answered .tag) ≡ true) image tag code reading slots reset tick (λ answer refused. h)
+  where
+    r : Ranges tag
+    r = ranges-of tag h
+
+    slots : (bit : Bool) → tagInRange (slotted image tag bit .answered .tag) ≡ true
+    slots bit =
+        let answer = answerTo image (tag .code) (exchange.asks (tag .exchange) bit) in
+        let s = exchange.slotOf (tag .exchange) bit answer in
+        in-ranges _
+        (record {
+          number = rw (exchange-laws.number-kept (tag .exchange) bit answer) (r .number);
+          code = r .code;
+          counters = performed-in-range (s .deed) (tag .counters) image (r .counters);
+          line = exchange-laws.slot-in-range (tag .exchange) bit answer (r .line);
+        })
+
+    reset : tagInRange (resetTag image tag .answered .tag) ≡ true
+    reset =
+        in-ranges _
+        (record {
+          number = r .number;
+          code = r .code;
+          counters = r .counters;
+          line = exchange-laws.reset-in-range (tag .exchange) (r .line);
+        })
+
+    tick : reading ≤ 2047 → tagInRange (tickTag image tag reading .answered .tag) ≡ true
+    tick small =
+        in-ranges _
+        (record {
+          number = r .number;
+          code = r .code;
+          counters = range-ticked image (tag .counters) reading (r .counters) small;
+          line = r .line;
+        })
+
+-- ---- a new tag
+
+-- "new tag 3, 4, 5"
+unfoldable pub newAnswer : List ℕ → ℕ → ℕ → Answer
+newAnswer image number code =
+    if not (eqb (length image) 8832) then Answer.ImageLength
+    else if not (goodNumber number) then Answer.RomNumber
+    else if not (goodCode code) then Answer.Configuration
+    else Answer.Accepted
+
+-- what a new tag that is accepted leaves
+abbrev pub newOutcome : ℕ → ℕ → Outcome
+newOutcome number code = record { answered = accepted (freshTag number code) true; image = newImage 8832 }
+
+new-cases : (P : Outcome → Answer → Type 0) (image : List ℕ) (number code : ℕ) →
+    ((answer : Answer) → answer ≢ Answer.Accepted → P (refusal answer (freshTag 0 0) image) answer) →
+    (length image ≡ 8832 → goodNumber number ≡ true → goodCode code ≡ true → P (newOutcome number code) Answer.Accepted) →
+    P (newTag image number code) (newAnswer image number code)
+unfolding newTag newAnswer
+new-cases P image number code refused made = by (eqb (length image) 8832) (goodNumber number) (goodCode code) refl refl refl
+  where
+    by : (whole good known : Bool) → eqb (length image) 8832 ≡ whole → goodNumber number ≡ good → goodCode code ≡ known →
+        P (if not whole then refusal Answer.ImageLength (freshTag 0 0) image
+        else if not good then refusal Answer.RomNumber (freshTag 0 0) image
+        else if not known then refusal Answer.Configuration (freshTag 0 0) image
+        else newOutcome number code)
+        (if not whole then Answer.ImageLength else if not good then Answer.RomNumber else if not known then Answer.Configuration else Answer.Accepted)
+    by false good known p q r = refused Answer.ImageLength (not-accepted Answer.ImageLength (omega arith))
+    by true false known p q r = refused Answer.RomNumber (not-accepted Answer.RomNumber (omega arith))
+    by true true false p q r = refused Answer.Configuration (not-accepted Answer.Configuration (omega arith))
+    by true true true p q r = made (eqb-true (length image) 8832 p) q r
+
+pub new-answer : (image : List ℕ) (number code : ℕ) → newTag image number code .answered .answer ≡ newAnswer image number code
+new-answer image number code =
+    new-cases (λ o a. o .answered .answer ≡ a) image number code (λ answer refused. refl) (λ whole good known. refl)
+
+-- "(a refused new tag: the record of all zeros ..)"
+pub new-refused : (image : List ℕ) (number code : ℕ) → newTag image number code .answered .answer ≢ Answer.Accepted →
+    newTag image number code ≡ refusal (newTag image number code .answered .answer) (freshTag 0 0) image
+new-refused image number code =
+    new-cases (λ o a. o .answered .answer ≢ Answer.Accepted → o ≡ refusal (o .answered .answer) (freshTag 0 0) image) image number code
+    (λ answer is-one refused. refl) (λ whole good known refused. absurd (refused refl))
+
+-- "which every event refuses with 6"
+pub zeros-break : tagInRange (freshTag 0 0) ≡ false
+unfolding tagInRange goodNumber
+zeros-break = refl
+
+-- one that is accepted had good image, number and code ..
+pub new-good : (image : List ℕ) (number code : ℕ) → newTag image number code .answered .answer ≡ Answer.Accepted →
+    (length image ≡ 8832) × (goodNumber number ≡ true) × (goodCode code ≡ true)
+new-good image number code =
+    new-cases
+    (λ o a. o .answered .answer ≡ Answer.Accepted → (length image ≡ 8832) × (goodNumber number ≡ true) × (goodCode code ≡ true))
+    image number code
+    (λ answer refused e. absurd (refused e))
+    (λ whole good known e. (whole, good, known))
+
+-- .. and those make one
+pub new-made : (image : List ℕ) (number code : ℕ) → length image ≡ 8832 → goodNumber number ≡ true → goodCode code ≡ true →
+    newTag image number code ≡ newOutcome number code
+unfolding newTag
+new-made image number code whole good known = rw (eq-eqb (length image) 8832 whole, good, known)
+
+pub length-new : (n : ℕ) → length (newImage n) ≡ n
+unfolding newImage
+length-new n = length-set (replicate n 0) 0x0214 0x80 ∙ length-replicate n 0
+
+pub new-in-range : (number code : ℕ) → goodNumber number ≡ true → goodCode code ≡ true → tagInRange (freshTag number code) ≡ true
+unfolding mission.countersInRange
+new-in-range number code good known =
+    in-ranges _ (record { number = good; code = known; counters = refl; line = exchange-laws.new-in-range number })
