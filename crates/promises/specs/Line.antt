@@ -5,8 +5,8 @@
 use mathlib.Core.Path.{_≡_, refl, sym, ap, _∙_}
 use mathlib.Core.Bool.{Bool, true, false, _&&_, and-false}
 use mathlib.Core.List.{List, [], _∷_, _++_}
-use mathlib.Core.Logic.{_≢_}
-use Prim.Native.Nat.{ℕ, _+_, _-_, _*_, _/_, _%_, _^_, _<_}
+use mathlib.Core.Logic.{_≢_, _⊎_, inl, inr, ⊎-elim}
+use Prim.Native.Nat.{ℕ, _+_, _-_, _*_, _/_, _%_, _^_, _≤_, _<_}
 use native.Mathlib.Omega.{arith}
 use lib.Dec.{eqb, ltb}
 use lib.ListN.{length, getD}
@@ -36,17 +36,21 @@ use Rattle.memory.specs.Runs.{slotsOf, released}
 use Rattle.memory.specs.Runs.Scratchpad.{overAt, padBytes, read-scratchpad, writeHead, writtenTo, write-scratchpad}
 use Rattle.mission.specs.Mission.{cleared, started, startedCounters, stopped}
 use Rattle.tag.specs.Tag.{answerTo, performed, performedCounters}
-use Rattle.promises.specs.Line.Slots.{State, Ran, numberOf, session, session-way, session-quiet, session-then, slots-quiet, slots-lastly, slots-then, answersOf, withExchange, afterDeed}
+use Rattle.promises.specs.Runs.{State}
+use Rattle.promises.specs.Line.Slots.{numberOf, session, session-way, session-quiet, session-then, slots-quiet, slots-lastly, slots-then, answersOf, withExchange, afterDeed}
 use Rattle.promises.specs.Line.Reading as reading
 use Rattle.promises.specs.Line.Reading.{readHead, readSlots, pageSent, sentWith}
 use Rattle.promises.specs.Line.Pages.{page-low, page-aligned}
+use Rattle.promises.specs.Line.Back.{plain-back}
 use Rattle.promises.specs.Line.Copying.{copyHead, copyBus, copy-head, copy-field, copy-other, copies-right, status-lt, rest-of-page}
 use Rattle.promises.specs.Line.Controlling.{controlByte, controlBus, control-head, control-done, control-undone, control-refused as refused}
 pub mod Slots
+pub mod Pad
 pub mod Commands
 pub mod Reading
 pub mod Pages
 pub mod Copying
+pub mod Back
 pub mod Controlling
 
 -- nothing has changed but the bus state and the Resume mark
@@ -210,6 +214,23 @@ writes-and-copies s way again address field n bytes long fits end small whole ma
     let copied = copies-page written again field n whole fits refl refl may in
     rw (writes-scratchpad s way address bytes long fits end small)
     (copied .0, copied .1 ∙ ap (storedRun (s .image) address) (rest-of-page (s .tag .exchange .held .pad) address bytes long), copied .2)
+
+-- and a Read Memory there gives them back: user memory and calibration as they were written, with their CRC-16
+pub reads-back : (s copied : State) (way : Way) (address field : ℕ) (bytes : List ℕ) → length (s .image) ≡ 8832 →
+    copied .image ≡ storedRun (s .image) address bytes → address % 32 + length bytes ≡ 32 → (address < 0x0200) ⊎ ((0x0240 ≤ address) × (address < 0x0280)) →
+    field < 2 ^ 64 → mayRead (copied .image) field ≡ true →
+    session copied (waySlots way (numberOf copied) ++ readSlots address field) .line ≡
+    wayLine way (numberOf copied) ++ (slotsOf (readHead address) ++ (bitsOf 64 field ++ slotsOf (sentWith address bytes)))
+unfolding pageSent
+reads-back s copied way address field bytes long same end lies fits may =
+    let code = copied .tag .code in
+    let count : 32 - address % 32 ≡ length bytes = omega arith in
+    let low : address + length bytes ≤ 0x0280 = ⊎-elim (λ user. omega arith) (λ calibration. omega arith) lies in
+    let apart : (address + length bytes ≤ 0x0200) ⊎ (0x0240 ≤ address) = ⊎-elim (λ user. inl (omega arith)) (λ calibration. inr (calibration .0)) lies in
+    let back : bytesFrom (sentAt (copied .image) code) address (32 - address % 32) ≡ bytes =
+    rw (same, count) (plain-back (s .image) code address bytes long low apart) in
+    reads-memory copied way address field fits (⊎-elim (λ user. omega arith) (λ calibration. omega arith) lies) may .0 ∙
+    ap (λ (b : List ℕ). wayLine way (numberOf copied) ++ (slotsOf (readHead address) ++ (bitsOf 64 field ++ slotsOf (sentWith address b)))) back
 
 -- ---- Clear, Start, Stop
 

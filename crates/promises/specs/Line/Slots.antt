@@ -5,6 +5,7 @@ use mathlib.Core.Bool.{Bool, true, false}
 use mathlib.Core.List.{List, [], _∷_, _++_, map, append-assoc}
 use Prim.Native.Nat.{ℕ, zero, suc}
 use lib.ListN.{replicate}
+use Rattle.bits.specs.Bits.{digit}
 use Rattle.exchange.specs.declared.Exchange.{Exchange}
 use Rattle.exchange.specs.Exchange.{afterReset as exchange-reset, slotOf, asks}
 use Rattle.exchange.specs.Runs as exchange
@@ -12,25 +13,17 @@ use Rattle.exchange.specs.Runs.Laws.{quiet-then}
 use Rattle.exchange.specs.Runs.Choosing.{run-way}
 use Rattle.memory.specs.declared.Deed.{Deed}
 use Rattle.memory.specs.declared.Question.{Question}
-use Rattle.tag.specs.declared.Tag.{Tag}
-use Rattle.tag.specs.Tag.{answerTo, performed, performedCounters, slotted}
-
--- a tag's record and its lent image
-pub record State : Type 0 where
-  pub image : List ℕ
-  pub tag : Tag
-
--- what slots give: the line's bits, and the tag after them
-pub record Ran : Type 0 where
-  pub line : List Bool
-  pub state : State
+use Rattle.tag.specs.Tag.{Outcome, answerTo, performed, performedCounters, slotted, resetTag, eventOf, step}
+use Rattle.tag.specs.Tag.Laws.{step-taken}
+use Rattle.promises.specs.Runs.{State, Event, leaves, happens, after, lineBit, Ran, run}
+use Rattle.promises.specs.Runs.Laws.{Sound, sound-after}
 
 -- the slots with these bits of the master, one after the other
 unfoldable pub slots : State → List Bool → Ran
 slots s [] = record { line = []; state = s }
 slots s (bit ∷ bits) =
     let out = slotted (s .image) (s .tag) bit in
-    let rest = slots (record { image = out .image; tag = out .answered .tag }) bits in
+    let rest = slots (leaves out) bits in
     record { line = out .answered .line ∷ rest .line; state = rest .state }
 
 -- the tag with another exchange, and after a deed that leaves this exchange
@@ -62,8 +55,7 @@ unfolding slots
 slots-append s [] more = refl
 slots-append s (bit ∷ bits) more =
     let out = slotted (s .image) (s .tag) bit in
-    let next : State = record { image = out .image; tag = out .answered .tag } in
-    ap (λ (r : Ran). record { line = out .answered .line ∷ r .line; state = r .state }) (slots-append next bits more)
+    ap (λ (r : Ran). record { line = out .answered .line ∷ r .line; state = r .state }) (slots-append (leaves out) bits more)
 
 pub slots-then : (s : State) (bits more : List Bool) {line rest : List Bool} {t u : State} →
     slots s bits ≡ record { line = line; state = t } → slots t more ≡ record { line = rest; state = u } →
@@ -154,3 +146,48 @@ pub session-then : (s : State) (way : exchange.Way) (bits more : List Bool) {x :
 session-then s way bits more {x} {line} {rest} p q =
     rw (← append-assoc (exchange.waySlots way (numberOf s)) bits more, ← append-assoc (exchange.wayLine way (numberOf s)) line rest)
     (slots-then (afterReset s) (exchange.waySlots way (numberOf s) ++ bits) more (session-quiet s way bits p) q)
+
+-- ---- as events
+
+-- a slot's event, and a reset's, in a state that no event refuses with 3 or 6
+slot-event : (s : State) (bit : Bool) → Sound s → step (s .image) (s .tag) (digit bit) 0 ≡ slotted (s .image) (s .tag) bit
+unfolding eventOf
+slot-event s true sound = step-taken (s .image) (s .tag) 1 0 (sound .size) (sound .ranges)
+slot-event s false sound = step-taken (s .image) (s .tag) 0 0 (sound .size) (sound .ranges)
+
+reset-event : (s : State) → Sound s → step (s .image) (s .tag) 2 0 ≡ resetTag (s .image) (s .tag)
+unfolding eventOf
+reset-event s sound = step-taken (s .image) (s .tag) 2 0 (sound .size) (sound .ranges)
+
+-- what an event of this outcome leaves
+after-event : (s : State) (e : Event) {out : Outcome} → happens s e ≡ out → after s e ≡ leaves out
+unfolding after
+after-event s e h = ap leaves h
+
+line-event : (s : State) (e : Event) {out : Outcome} → happens s e ≡ out → lineBit s e ≡ out .answered .line
+unfolding lineBit
+line-event s e h = ap (λ (o : Outcome). o .answered .line) h
+
+run-event : (s : State) (e : Event) (es : List Event) {out : Outcome} → happens s e ≡ out →
+    run s (e ∷ es) ≡ record { line = out .answered .line ∷ run (leaves out) es .line; state = run (leaves out) es .state }
+unfolding run
+run-event s e es h = rw (line-event s e h, after-event s e h)
+
+pub run-slots : (s : State) (bits : List Bool) → Sound s → run s (map Event.slot bits) ≡ slots s bits
+unfolding run slots
+run-slots s [] sound = refl
+run-slots s (bit ∷ bits) sound =
+    let out = slotted (s .image) (s .tag) bit in
+    let e = Event.slot bit in
+    let next : Sound (leaves out) = rw (after-event s e (slot-event s bit sound)) at (sound-after e sound) in
+    run-event s e (map Event.slot bits) (slot-event s bit sound) ∙
+    ap (λ (r : Ran). record { line = out .answered .line ∷ r .line; state = r .state }) (run-slots (leaves out) bits next)
+
+-- a reset, which gives 0, and the slots after it
+pub run-session : (s : State) (bits : List Bool) → Sound s →
+    run s (Event.reset ∷ map Event.slot bits) ≡ record { line = false ∷ session s bits .line; state = session s bits .state }
+unfolding resetTag
+run-session s bits sound =
+    let next : Sound (afterReset s) = rw (after-event s Event.reset (reset-event s sound)) at (sound-after Event.reset sound) in
+    run-event s Event.reset (map Event.slot bits) (reset-event s sound) ∙
+    ap (λ (r : Ran). record { line = false ∷ r .line; state = r .state }) (run-slots (afterReset s) bits next)

@@ -6,7 +6,25 @@ use Rattle.dock.proofs.registers.stamp.Tie as tie
 
 returns : tie.Need-returns
 unfolding bytesFrom
-returns c = rw (c .before .before .before .before .before .byte-at .ensures, c .before .before .before .before .byte-at2 .ensures, c .before .before .before .byte-at3 .ensures, c .before .before .byte-at4 .ensures, c .before .byte-at5 .ensures, c .byte-at6 .ensures)
+returns c =
+    let third = c .before .before .before in
+    rw (
+      third .before .before .byte-at .ensures,
+      third .before .byte-at2 .ensures,
+      third .byte-at3 .ensures,
+      c .before .before .byte-at4 .ensures,
+      c .before .byte-at5 .ensures,
+      c .byte-at6 .ensures,
+    )
 
 pub stamp-spec : {M : Type 1} → statement M
-stamp-spec = tie.close (tie.spec (λ c κs. search needs) (λ c κs. search needs) (λ c κs. search needs) (λ c κs. search needs) (λ c κs. search needs) (λ c κs. search needs) returns)
+stamp-spec =
+    tie.close
+    (tie.spec
+    (λ c κs. search needs)
+    (λ c κs. search needs)
+    (λ c κs. search needs)
+    (λ c κs. search needs)
+    (λ c κs. search needs)
+    (λ c κs. search needs)
+    returns)

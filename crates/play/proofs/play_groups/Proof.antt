@@ -1,0 +1,138 @@
+-- `play::play_groups` meets its contract. With the groups from `i` on still to be played and their text put behind what is printed
+-- already, all is as promised; after a refusal nothing is left to be played. What is printed is no longer than what is played,
+-- so no sum wraps. The measure is the bytes left. Assumes nothing.
+use mathlib.Core.Logic.{⊎-elim}
+use mathlib.Core.Path.{_≡_, refl, ap, _∙_}
+use Prim.Native.Nat.{_+_, _-_, _≤_, _<_, _^_}
+use native.Mathlib.Nat.{add-zero, zero-add}
+use native.Mathlib.Omega.{arith}
+use borrow.Author.Needs.{needs}
+use borrow.Author.Tests.{leb-true, leb-false}
+use lib.ListN.{length, drop, length-drop}
+use Rattle.play.specs.Play.{sessionOf}
+use Rattle.play.specs.Play.Laws.{Put, following, following-none, putOf, put-group, following-on, answer-length, bit-length}
+use Rattle.play.proofs.play_groups.Statement.{statement}
+use Rattle.play.proofs.play_groups.Tie as tie
+
+abbrev Inv-loop : tie.InvT-loop
+Inv-loop image₀ block out₀ now₀ refusal₀ printed₀ i₀ image out now refusal printed i =
+    (i ≤ length block)
+    × (length image ≡ length image₀)
+    × (length out ≡ length out₀)
+    × (refusal ≡ 0 → printed ≤ i)
+    × (putOf out printed (following refusal image now (drop i block)) ≡ putOf out₀ 0 (sessionOf image₀ now₀ block))
+
+abbrev μ-loop : tie.MeasureT-loop
+μ-loop image₀ block out₀ now₀ refusal₀ printed₀ i₀ image out now refusal printed i = length block - i
+
+loop-holds : tie.Need-loop-holds Inv-loop μ-loop
+unfolding following
+loop-holds c = (omega arith, refl, refl, λ _. omega arith, refl)
+
+sub-if1 : tie.Need-sub-if1 Inv-loop μ-loop
+sub-if1 c = omega arith
+
+-- three bytes are left in the block
+room : (c : tie.Then1 Inv-loop μ-loop) → c .before .before .loop .i + 3 ≤ length (c .before .before .before .before .before .before .args .block .now)
+room c =
+    let l = c .before .before .loop in
+    omega (arith, l .inv .0, leb-true 3 (length (c .before .before .before .before .before .before .args .block .now) - l .i) (c .if1 .taken))
+
+-- a block is short enough to count in
+short : (c : tie.Then1 Inv-loop μ-loop) → length (c .before .before .before .before .before .before .args .block .now) < 2 ^ 63
+short c = omega (arith, c .before .before .before .before .before .before .good .1 .1 .0 .1)
+
+add-reading-of : tie.Need-add-reading-of Inv-loop μ-loop
+add-reading-of c = omega arith
+
+shared-slice-read-reading-of : tie.Need-shared-slice-read-reading-of Inv-loop μ-loop
+shared-slice-read-reading-of c = omega (arith, room (c .before))
+
+add-reading-of-2 : tie.Need-add-reading-of-2 Inv-loop μ-loop
+add-reading-of-2 c = omega arith
+
+shared-slice-read-reading-of-2 : tie.Need-shared-slice-read-reading-of-2 Inv-loop μ-loop
+shared-slice-read-reading-of-2 c = omega (arith, room (c .before .before))
+
+reading-of-requires : tie.Need-reading-of-requires Inv-loop μ-loop
+reading-of-requires c κs = search needs
+
+shared-slice-read-event : tie.Need-shared-slice-read-event Inv-loop μ-loop
+shared-slice-read-event c = omega (arith, room (c .before .before .before .before .before))
+
+event-requires : tie.Need-event-requires Inv-loop μ-loop
+event-requires c κs = search needs
+
+number-requires : tie.Need-number-requires Inv-loop μ-loop
+number-requires c κs = search needs
+
+put-answer-requires : tie.Need-put-answer-requires Inv-loop μ-loop
+put-answer-requires c κs = search needs
+
+add-printed : tie.Need-add-printed Inv-loop μ-loop
+add-printed c =
+    let l = c .before .before .before .before .before .before .before .before .before .before .before .before .before .before .before .loop in
+    omega (arith, room (c .before .before .before .before .before .before .before .before .before .before .before .before .before), short (c .before .before .before .before .before .before .before .before .before .before .before .before .before), l .inv .3 (c .before .before .before .before .before .before .before .before .before .before .before .before .before .before .loop-test .taken), c .before .before .put-answer .ensures .0, answer-length (c .before .before .before .before .number .result) (c .before .before .before .before .before .before .before .event .result .line))
+
+add-i : tie.Need-add-i Inv-loop μ-loop
+add-i c = omega (arith, room (c .before .before .before .before .before .before .before .before .before .before .before .before .before .before), short (c .before .before .before .before .before .before .before .before .before .before .before .before .before .before))
+
+loop-less : tie.Need-loop-less Inv-loop μ-loop
+loop-less c = omega (arith, room (c .before .before .before .before .before .before .before .before .before .before .before .before .before .before))
+
+loop-again : tie.Need-loop-again Inv-loop μ-loop
+loop-again c =
+    let l = c .before .before .before .before .before .before .before .before .before .before .before .before .before .before .before .before .loop in
+    let number = c .before .before .before .before .before .number in
+    let event = c .before .before .before .before .before .before .before .before .event in
+    let put = c .before .before .before .put-answer in
+    let accepted = c .before .before .before .before .before .before .before .before .before .before .before .before .before .before .before .loop-test .taken in (
+      room (c .before .before .before .before .before .before .before .before .before .before .before .before .before .before),
+      event .kept .0 ∙ l .inv .1,
+      put .kept .0 ∙ l .inv .2,
+      λ zero. omega (arith, l .inv .3 accepted, put .ensures .0, bit-length (number .result) (event .result .line) zero),
+      put-group (l .image) (l .now) (c .before .before .before .before .before .before .before .before .before .before .before .before .before .before .before .before .before .before .before .before .args .block .now) (l .out) (l .i) (l .printed) (room (c .before .before .before .before .before .before .before .before .before .before .before .before .before .before))
+          _ (c .before .before .before .before .before .before .before .before .before .before .before .reading-of .ensures) _ (event .ensures .0) _ (event .ensures .1) _ (number .ensures) _ (put .ensures .1) _ (put .ensures .0)
+          ∙ rw (following-on (l .refusal) (l .image) (l .now) (drop (l .i) (c .before .before .before .before .before .before .before .before .before .before .before .before .before .before .before .before .before .before .before .before .args .block .now)) accepted) at (l .inv .4),
+    )
+
+same-length : tie.Need-same-length Inv-loop μ-loop
+same-length c = c .before .loop .inv .1
+
+same-length-2 : tie.Need-same-length-2 Inv-loop μ-loop
+same-length-2 c = c .before .loop .inv .2
+
+returns : tie.Need-returns Inv-loop μ-loop
+unfolding putOf
+returns c =
+    let l = c .before .loop in
+    let block = c .before .before .before .before .before .args .block .now in
+    let none : l .refusal ≡ 0 → length (drop (l .i) block) < 3 =
+    ⊎-elim (λ w _. simp length-drop (omega (arith, leb-false 3 (length block - l .i) (w .1 .left)))) (λ w zero. absurd (w .left zero)) (c .loop-test .came) in
+    let e = rw (following-none (l .refusal) (l .image) (l .now) (drop (l .i) block) none) at (l .inv .4) in
+    (rw (add-zero, zero-add) at (ap (λ (p : Put). p .played) e), (ap (λ (p : Put). p .image) e, ap (λ (p : Put). p .out) e))
+
+pub play-groups-spec : {M : Type 1} → statement M
+play-groups-spec =
+    tie.close
+    (tie.spec
+    Inv-loop
+    μ-loop
+    loop-holds
+    sub-if1
+    add-reading-of
+    shared-slice-read-reading-of
+    add-reading-of-2
+    shared-slice-read-reading-of-2
+    reading-of-requires
+    shared-slice-read-event
+    event-requires
+    number-requires
+    put-answer-requires
+    add-printed
+    add-i
+    loop-less
+    loop-again
+    same-length
+    same-length-2
+    returns)
