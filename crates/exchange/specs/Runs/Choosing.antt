@@ -1,7 +1,7 @@
 -- Whole ROM commands after a reset: Read ROM, Match, Search and Skip choose the tag, from any exchange (document 01, "Choosing a
 -- tag on the line"). Assumes nothing.
 use mathlib.Core.Path.{_≡_, refl, _∙_}
-use mathlib.Core.Bool.{Bool, true, false}
+use mathlib.Core.Bool.{Bool}
 use mathlib.Core.List.{List, [], _∷_, _++_, flatMap}
 use Prim.Native.Nat.{ℕ, _*_, _<_}
 use native.Mathlib.Omega.{arith}

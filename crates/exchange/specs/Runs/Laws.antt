@@ -1,12 +1,10 @@
 -- Runs one after the other, and a run as select's or memory's own. Assumes nothing.
 use mathlib.Core.Path.{_≡_, refl, sym, ap, _∙_}
 use mathlib.Core.Bool.{Bool, true, false, not, _&&_, false≢true}
-use mathlib.Core.List.{List, [], _∷_, _++_, map, map-append}
+use mathlib.Core.List.{List, [], _∷_, _++_, map-append}
 use Prim.Native.Nat.{ℕ}
 use lib.Dec.{eqb}
-use Rattle.bits.specs.Choose.{if_then_else_}
 use Rattle.memory.specs.declared.Bus.{Bus}
-use Rattle.memory.specs.declared.Deed.{Deed}
 use Rattle.memory.specs.declared.Held.{Held}
 use Rattle.memory.specs.declared.Question.{Question}
 use Rattle.memory.specs.Memory as memory

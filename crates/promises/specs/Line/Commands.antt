@@ -1,6 +1,6 @@
 -- The parts that memory commands share, as runs of the exchange that do nothing: bytes heard one after the other, and a command
 -- with its address. Assumes nothing.
-use mathlib.Core.Path.{_≡_, refl, ap, _∙_}
+use mathlib.Core.Path.{_≡_, refl}
 use mathlib.Core.Bool.{Bool}
 use mathlib.Core.List.{List, [], _∷_, _++_, flatMap, append-assoc}
 use Prim.Native.Nat.{ℕ, _+_, _*_, _/_, _%_, _<_}

@@ -1,13 +1,11 @@
 -- The scratchpad of every reached tag has 32 bytes. Assumes nothing.
-use mathlib.Core.Path.{_≡_, refl, ap, _∙_}
+use mathlib.Core.Path.{_≡_, refl, _∙_}
 use mathlib.Core.Bool.{Bool, true, false}
 use mathlib.Core.List.{List}
 use Prim.Native.Nat.{ℕ}
 use lib.Dec.{eqb, ltb}
 use lib.ListN.{length, length-set}
-use Rattle.answer.specs.declared.Answer.{Answer}
-use Rattle.bits.specs.Choose.{if_then_else_, either}
-use Rattle.bits.specs.Bits.{digit}
+use Rattle.bits.specs.Choose.{either}
 use Rattle.exchange.specs.declared.Exchange.{Exchange}
 use Rattle.exchange.specs.declared.Slotted.{Slotted}
 use Rattle.exchange.specs.Exchange as exchange
@@ -23,8 +21,7 @@ use Rattle.memory.specs.Field.{copies, judged, gatheredBit}
 use Rattle.memory.specs.Send.{sentBit, alternating}
 use Rattle.memory.specs.Memory as memory
 use Rattle.select.specs.Select.{isSelected}
-use Rattle.tag.specs.declared.Tag.{Tag}
-use Rattle.tag.specs.Tag.{Outcome, answerTo, slotted, resetTag, tickTag, refusal, eventOf, newTag, freshTag}
+use Rattle.tag.specs.Tag.{Outcome, slotted, resetTag, tickTag, eventOf}
 use Rattle.tag.specs.Tag.Laws.{step-taken, new-good, new-made}
 use Rattle.promises.specs.Runs.{State, Event, codeOf, readingOf, leaves, after, Reached}
 use Rattle.promises.specs.Runs.Laws.{Sound, reached-sound}

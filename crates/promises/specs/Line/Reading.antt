@@ -1,145 +1,75 @@
--- Read Memory as a whole run: with a password that may read, the data to the page's end and the CRC-16 over command, address and
--- data (document 01, "Memory commands", 69h); with any other, the line is the master's. Assumes nothing.
-use mathlib.Core.Path.{_≡_, refl, ap, _∙_}
+-- Read ROM reads the tag's number. Read Memory with a password that may read gives the bytes as they are sent, to the page's end, and
+-- their CRC-16; of a page of the dump that is its line. Neither changes image or counters. (Document 01, "Choosing a tag on the
+-- line", "Memory commands" and "The dump and its listing".) Assumes nothing.
+use mathlib.Core.Path.{_≡_, refl, _∙_}
 use mathlib.Core.Bool.{Bool, true, false, _&&_}
-use mathlib.Core.List.{List, [], _∷_, _++_, flatMap}
-use Prim.Native.Nat.{ℕ, zero, suc, _+_, _-_, _*_, _/_, _%_, _^_, _<_}
-use native.Mathlib.Numerals.{add-one}
-use native.Mathlib.Omega.{arith}
-use borrow.Author.Tests.{lt-ltb, le-ltb}
+use mathlib.Core.List.{List, [], _∷_, _++_, map}
+use Prim.Native.Nat.{ℕ, _/_, _%_, _^_, _<_}
 use lib.Dec.{eqb, ltb}
-use lib.ListN.{length, replicate-append-replicate}
-use Rattle.bits.specs.Bits.{bitsOf}
-use Rattle.crc.specs.Crc.{crcRun, crc16Run, sentLow, sentHigh}
-use Rattle.dump.specs.Lines.{bytesFrom}
-use Rattle.exchange.specs.Runs.{run, quietly, commanding, chosen}
-use Rattle.exchange.specs.Runs.Laws.{run-nil, quiet-then}
-use Rattle.exchange.specs.Runs.Commands.{field-quiet, run-over}
-use Rattle.memory.specs.declared.Addressed.{Addressed}
-use Rattle.memory.specs.declared.Bus.{Bus}
-use Rattle.memory.specs.declared.Guarded.{Guarded}
-use Rattle.memory.specs.declared.Held.{Held}
-use Rattle.memory.specs.declared.Next.{Next}
+use Rattle.bits.specs.Bits.{bitsOf, digit}
+use Rattle.dump.specs.Dump.{dumpOf, dump-line}
+use Rattle.dump.specs.Lines.{pageOf, pageCrc, lineBytes, lineOf, lineAt}
+use Rattle.exchange.specs.Runs.{Way, waySlots, wayLine, wayMark}
+use Rattle.hex.specs.Hex.{hexText}
+use Rattle.image.specs.Answers.{mayRead}
+use Rattle.image.specs.Sent.{sentAt}
 use Rattle.memory.specs.declared.Question.{Question}
-use Rattle.memory.specs.declared.Sending.{Sending}
-use Rattle.memory.specs.declared.Stage.{Stage}
-use Rattle.memory.specs.Bus.{goTo, addressing}
-use Rattle.memory.specs.Hear.{commandStage, addressHeard}
-use Rattle.memory.specs.Field.{afterReading, judged}
-use Rattle.memory.specs.Send.{firstByte, afterMemory, afterPage, afterCrc, sentWhole, sendAsks}
 use Rattle.memory.specs.Runs.{slotsOf, released}
-use Rattle.memory.specs.Runs.Scratchpad.{overAt}
-use Rattle.promises.specs.Line.Commands.{slots-join, sent-then, head-run}
+use Rattle.tag.specs.Tag.{answerTo}
+use Rattle.promises.specs.Runs.{State, Event, run}
+use Rattle.promises.specs.Runs.Laws.{Sound}
+use Rattle.promises.specs.Line.Slots.{numberOf, session, greeting, session-way, session-quiet, answersOf, Kept, kept-by}
+use Rattle.promises.specs.Line.ReadRun.{readHead, readSlots, pageSent, sentWith, read-run, unread-run}
+use Rattle.promises.specs.Line.Pages.{page-low, page-aligned}
 
--- 69h, TA1, TA2
-abbrev pub readHead : ℕ → List ℕ
-readHead address = 0x69 ∷ address % 256 ∷ address / 256 ∷ []
+-- ---- Read ROM
 
--- what is sent: "data to the page's end and CRC-16 over command, address, data (not password)"
-unfoldable pub sentWith : ℕ → List ℕ → List ℕ
-sentWith address bytes =
-    let crc = crc16Run 0 (readHead address ++ bytes) in
-    bytes ++ (sentLow crc ∷ sentHigh crc ∷ [])
+-- "Read 33h": the line carries the number
+pub reads-number : (s : State) → Sound s →
+    let ran = run s (Event.reset ∷ map Event.slot (bitsOf 8 0x33 ++ released 64)) in
+    (ran .line ≡ false ∷ (bitsOf 8 0x33 ++ bitsOf 64 (numberOf s))) × Kept s (ran .state)
+unfolding waySlots wayLine
+reads-number s sound =
+    kept-by s (session-way s sound Way.read)
 
-unfoldable pub pageSent : (ℕ → ℕ) → ℕ → List ℕ
-pageSent byte address = sentWith address (bytesFrom byte address (32 - address % 32))
+-- the image's answer to "may it?" is 1 exactly if it may
+digit-one : (b : Bool) → eqb (digit b) 1 ≡ b
+digit-one true = refl
+digit-one false = refl
 
-module _ (answers : Question → ℕ) (number : ℕ) (mark : Bool) (held : Held) where
-  -- what the image answers for an address
-  abbrev byteAt : ℕ → ℕ
-  byteAt address = answers (Question.Byte address)
+-- ---- Read Memory
 
-  -- ---- the bytes to the page's end
+module _ (s : State) (sound : Sound s) (way : Way) (address field : ℕ) (fits : field < 2 ^ 64) where
+  -- with a password that may read: the bytes as Read Memory sends them, to the page's end, and their CRC-16
+  pub reads-memory : address < 0x3000 → mayRead (s .image) field ≡ true →
+      let ran = run s (session s way (readSlots address field)) in
+      (ran .line ≡ greeting s way ++
+      (slotsOf (readHead address) ++ (bitsOf 64 field ++ slotsOf (pageSent (sentAt (s .image) (s .tag .code)) address)))) × Kept s (ran .state)
+  unfolding answerTo
+  reads-memory low may =
+      let x = s .tag .exchange in
+      let answer : eqb (answersOf s (Question.MayRead field)) 1 ≡ true = rw may in
+      kept-by s (session-quiet s sound way (readSlots address field) (read-run (answersOf s) (x .number) (wayMark way) (x .held) address field fits low answer))
 
-  -- n more bytes are past: the CRC-16 has counted these, and the address is that of the last
-  abbrev readOn : Bus → ℕ → List ℕ → Bus
-  readOn bus n bytes =
-      record { stage = bus .stage; byte = bus .byte; at = bus .at; crc = crc16Run (bus .crc) bytes; address = bus .address + n; status = bus .status; field = bus .field }
+  -- with any other password, or past 2FFFh, nothing but 1s: the line is the master's, whatever follows
+  pub reads-nothing : (bits : List Bool) → address < 65536 → (ltb address 0x3000 && mayRead (s .image) field) ≡ false →
+      let ran = run s (session s way (slotsOf (readHead address) ++ (bitsOf 64 field ++ bits))) in
+      (ran .line ≡ greeting s way ++ (slotsOf (readHead address) ++ (bitsOf 64 field ++ bits))) × Kept s (ran .state)
+  unfolding answerTo
+  reads-nothing bits whole shut =
+      let x = s .tag .exchange in
+      let answer : (ltb address 0x3000 && eqb (answersOf s (Question.MayRead field)) 1) ≡ false = rw (digit-one (mayRead (s .image) field)) shut in
+      kept-by s (session-quiet s sound way _ (unread-run (answersOf s) (x .number) (wayMark way) (x .held) address field fits bits whole answer))
 
-  released-more : (n : ℕ) → released (suc n * 8) ≡ released 8 ++ released (n * 8)
-  released-more n = let more : suc n * 8 ≡ 8 + n * 8 = omega arith in rw (more, replicate-append-replicate 8 (n * 8) true)
-
-  page-run : (bus : Bus) (n : ℕ) → bus .address % 32 + n ≡ 31 →
-      let bytes = bytesFrom byteAt (bus .address) (suc n) in
-      run answers (commanding number mark held (goTo bus (Stage.Sends Sending.Memory))) (released (suc n * 8)) ≡
-      quietly (commanding number mark held (goTo (readOn bus n bytes) (Stage.Sends (Sending.CrcLow Next.Page)))) (slotsOf bytes)
-  unfolding flatMap bytesFrom firstByte sentWhole afterMemory sendAsks crcRun
-  page-run bus zero last =
-      let same : bus .address + 0 ≡ bus .address = omega arith in
-      rw same
-      (sent-then answers number mark Sending.Memory held bus (byteAt (bus .address)) [] refl
-      (rw (le-ltb (bus .address % 32) 31 (omega arith)) (run-nil answers _)))
-  page-run bus (suc n) more =
-      let byte = byteAt (bus .address) in
-      let next = addressing (readOn bus 0 (byte ∷ [])) (bus .address + 1) in
-      let there : bus .address + 1 + n ≡ bus .address + suc n = omega arith in
-      rw (released-more (suc n), ← add-one (bus .address))
-      (sent-then answers number mark Sending.Memory held bus byte (released (suc n * 8)) refl
-      (rw (lt-ltb (bus .address % 32) 31 (omega arith)) (rw there at (page-run next n (omega arith)))))
-
-  -- and its CRC-16
-  crc-run : (bus : Bus) →
-      run answers (commanding number mark held (goTo bus (Stage.Sends (Sending.CrcLow Next.Page)))) (released 16) ≡
-      quietly (commanding number mark held (afterPage (goTo bus (Stage.Sends (Sending.CrcHigh Next.Page))))) (slotsOf (sentLow (bus .crc) ∷ sentHigh (bus .crc) ∷ []))
-  unfolding flatMap firstByte sentWhole afterCrc sendAsks
-  crc-run bus =
-      sent-then answers number mark (Sending.CrcLow Next.Page) held bus (sentLow (bus .crc)) (released 8) refl
-      (sent-then answers number mark (Sending.CrcHigh Next.Page) held bus (sentHigh (bus .crc)) [] refl (run-nil answers _))
-
-  -- ---- the password
-
-  may-read : (bus : Bus) (field : ℕ) {stage : Stage} → field < 2 ^ 64 →
-      afterReading (bus .address) (eqb (answers (Question.MayRead field)) 1) ≡ stage →
-      run answers (commanding number mark held (goTo bus (Stage.Gathers Guarded.Reading))) (bitsOf 64 field) ≡
-      quietly (commanding number mark held (goTo bus stage)) (bitsOf 64 field)
-  unfolding judged
-  may-read bus field fits leads = rw leads at (field-quiet answers number mark held bus Guarded.Reading field fits refl refl)
-
-  head : (address : ℕ) → address < 65536 →
-      run answers (chosen number mark held) (slotsOf (readHead address)) ≡
-      quietly (commanding number mark held (goTo (overAt (crc16Run 0 (readHead address)) address) (Stage.Gathers Guarded.Reading))) (slotsOf (readHead address))
-  unfolding commandStage addressHeard
-  head address fits =
-      head-run answers number mark held Addressed.Read (Stage.Gathers Guarded.Reading) 0x69 address (omega arith) fits refl (λ bus. refl)
-
--- ---- the whole command
-
--- its slots: 69h, TA1, TA2, the eight password bytes, and the line released for the rest of the page and the CRC-16
-abbrev pub readSlots : ℕ → ℕ → List Bool
-readSlots address field = slotsOf (readHead address) ++ (bitsOf 64 field ++ released ((34 - address % 32) * 8))
-
--- where it stands then: the next page follows, if there is one
-abbrev pub readEnd : ℕ → List ℕ → Bus
-readEnd address bytes =
-    afterPage (goTo (overAt (crc16Run 0 (readHead address ++ bytes)) (address + (31 - address % 32))) (Stage.Sends (Sending.CrcHigh Next.Page)))
-
-module _ (answers : Question → ℕ) (number : ℕ) (mark : Bool) (held : Held) (address field : ℕ) (fits : field < 2 ^ 64) where
-  pub read-run : address < 0x3000 → eqb (answers (Question.MayRead field)) 1 ≡ true →
-      let byte : ℕ → ℕ = λ a. answers (Question.Byte a) in
-      run answers (chosen number mark held) (readSlots address field) ≡
-      quietly (commanding number mark held (readEnd address (bytesFrom byte address (32 - address % 32))))
-      (slotsOf (readHead address) ++ (bitsOf 64 field ++ slotsOf (pageSent byte address)))
-  unfolding crcRun pageSent sentWith afterReading
-  read-run low may =
-      let n = 31 - address % 32 in
-      let start = overAt (crc16Run 0 (readHead address)) address in
-      let bytes = bytesFrom (λ a. answers (Question.Byte a)) address (suc n) in
-      let count : 32 - address % 32 ≡ suc n = omega arith in
-      let times : (34 - address % 32) * 8 ≡ suc n * 8 + 16 = omega arith in
-      rw (times, ← replicate-append-replicate (suc n * 8) 16 true, count, slots-join bytes _)
-      (quiet-then answers _ (slotsOf (readHead address)) _ (head answers number mark held address (omega arith))
-      (quiet-then answers _ (bitsOf 64 field) _ (may-read answers number mark held start field fits (rw (lt-ltb address 0x3000 low, may)))
-      (quiet-then answers _ (released (suc n * 8)) (released 16) (page-run answers number mark held start n (omega arith))
-      (crc-run answers number mark held (readOn answers number mark held start n bytes)))))
-
-  -- with a password that may not, or past 2FFFh, the line is the master's from the command on
-  pub unread-run : (bits : List Bool) → address < 65536 → (ltb address 0x3000 && eqb (answers (Question.MayRead field)) 1) ≡ false →
-      run answers (chosen number mark held) (slotsOf (readHead address) ++ (bitsOf 64 field ++ bits)) ≡
-      quietly (commanding number mark held (goTo (overAt (crc16Run 0 (readHead address)) address) Stage.Over))
-      (slotsOf (readHead address) ++ (bitsOf 64 field ++ bits))
-  unfolding afterReading
-  unread-run bits whole shut =
-      let start = overAt (crc16Run 0 (readHead address)) address in
-      quiet-then answers _ (slotsOf (readHead address)) _ (head answers number mark held address whole)
-      (quiet-then answers _ (bitsOf 64 field) bits (may-read answers number mark held start field fits (rw shut))
-      (run-over answers number mark held start bits))
+-- a page of the dump, read with no tick in between: its line is the page's two bytes and all that the tag sent
+pub reads-dump-line : (s : State) (sound : Sound s) (way : Way) (line field : ℕ) → line < 258 → field < 2 ^ 64 → mayRead (s .image) field ≡ true →
+    let page = pageOf line in
+    let sent = pageSent (sentAt (s .image) (s .tag .code)) page in
+    let ran = run s (session s way (readSlots page field)) in
+    (ran .line ≡ greeting s way ++ (slotsOf (readHead page) ++ (bitsOf 64 field ++ slotsOf sent)))
+    × (lineAt (dumpOf (s .image) (s .tag .code)) line ≡ hexText (page / 256 ∷ page % 256 ∷ sent) ++ (0x0A ∷ []))
+    × Kept s (ran .state)
+unfolding lineOf lineBytes pageCrc pageSent sentWith
+reads-dump-line s sound way line field there fits may =
+    let read = reads-memory s sound way (pageOf line) field fits (page-low line there) may in
+    (read .0, dump-line (s .image) (s .tag .code) line there ∙ rw (page-aligned line there), read .1)

@@ -1,6 +1,6 @@
 -- Slots of a tag one after the other, with no tick in between: over an image that stays, they are the exchange's run with the
 -- image's answers. Assumes nothing.
-use mathlib.Core.Path.{_≡_, refl, sym, ap, _∙_}
+use mathlib.Core.Path.{_≡_, refl, ap, _∙_}
 use mathlib.Core.Bool.{Bool, true, false}
 use mathlib.Core.List.{List, [], _∷_, _++_, map, append-assoc}
 use Prim.Native.Nat.{ℕ, zero, suc}
@@ -9,8 +9,10 @@ use Rattle.bits.specs.Bits.{digit}
 use Rattle.exchange.specs.declared.Exchange.{Exchange}
 use Rattle.exchange.specs.Exchange.{afterReset as exchange-reset, slotOf, asks}
 use Rattle.exchange.specs.Runs as exchange
+use Rattle.exchange.specs.Runs.{Way, waySlots, wayLine, wayMark}
 use Rattle.exchange.specs.Runs.Laws.{quiet-then}
 use Rattle.exchange.specs.Runs.Choosing.{run-way}
+use Rattle.memory.specs.declared.Bus.{Bus}
 use Rattle.memory.specs.declared.Deed.{Deed}
 use Rattle.memory.specs.declared.Question.{Question}
 use Rattle.tag.specs.Tag.{Outcome, answerTo, performed, performedCounters, slotted, resetTag, eventOf, step}
@@ -108,45 +110,6 @@ pub slots-lastly : (s : State) (bits : List Bool) (n : ℕ) (deed : Deed) {x : E
 slots-lastly s bits n deed e =
     rw e at (slots-run s bits deed (rw e (ends-lastly n deed)))
 
--- ---- after a reset
-
--- the tag's number, and the tag chosen in this way: a memory command comes next
-abbrev pub numberOf : State → ℕ
-numberOf s = s .tag .exchange .number
-
-abbrev pub chosenBy : exchange.Way → State → Exchange
-chosenBy way s = exchange.chosen (numberOf s) (exchange.wayMark way) (s .tag .exchange .held)
-
--- a reset, and these slots after it
-abbrev pub session : State → List Bool → Ran
-session s bits = slots (afterReset s) bits
-
--- a ROM command chooses the tag
-pub session-way : (s : State) (way : exchange.Way) →
-    session s (exchange.waySlots way (numberOf s)) ≡ record { line = exchange.wayLine way (numberOf s); state = withExchange s (chosenBy way s) }
-session-way s way =
-    slots-quiet (afterReset s) (exchange.waySlots way (numberOf s)) (run-way (answersOf s) (s .tag .exchange) way)
-
--- and what does nothing after it
-pub session-quiet : (s : State) (way : exchange.Way) (bits : List Bool) {x : Exchange} {line : List Bool} →
-    exchange.run (answersOf s) (chosenBy way s) bits ≡ exchange.quietly x line →
-    session s (exchange.waySlots way (numberOf s) ++ bits) ≡
-    record { line = exchange.wayLine way (numberOf s) ++ line; state = withExchange s x }
-session-quiet s way bits e =
-    let x = s .tag .exchange in
-    slots-quiet (afterReset s) (exchange.waySlots way (numberOf s) ++ bits)
-    (quiet-then (answersOf s) (exchange-reset x) (exchange.waySlots way (x .number)) bits (run-way (answersOf s) x way) e)
-
--- and after that anything
-pub session-then : (s : State) (way : exchange.Way) (bits more : List Bool) {x : Exchange} {line rest : List Bool} {t : State} →
-    exchange.run (answersOf s) (chosenBy way s) bits ≡ exchange.quietly x line →
-    slots (withExchange s x) more ≡ record { line = rest; state = t } →
-    session s (exchange.waySlots way (numberOf s) ++ (bits ++ more)) ≡
-    record { line = exchange.wayLine way (numberOf s) ++ (line ++ rest); state = t }
-session-then s way bits more {x} {line} {rest} p q =
-    rw (← append-assoc (exchange.waySlots way (numberOf s)) bits more, ← append-assoc (exchange.wayLine way (numberOf s)) line rest)
-    (slots-then (afterReset s) (exchange.waySlots way (numberOf s) ++ bits) more (session-quiet s way bits p) q)
-
 -- ---- as events
 
 -- a slot's event, and a reset's, in a state that no event refuses with 3 or 6
@@ -184,10 +147,76 @@ run-slots s (bit ∷ bits) sound =
     ap (λ (r : Ran). record { line = out .answered .line ∷ r .line; state = r .state }) (run-slots (leaves out) bits next)
 
 -- a reset, which gives 0, and the slots after it
-pub run-session : (s : State) (bits : List Bool) → Sound s →
-    run s (Event.reset ∷ map Event.slot bits) ≡ record { line = false ∷ session s bits .line; state = session s bits .state }
+run-reset : (s : State) (bits : List Bool) {line : List Bool} {t : State} → Sound s →
+    slots (afterReset s) bits ≡ record { line = line; state = t } →
+    run s (Event.reset ∷ map Event.slot bits) ≡ record { line = false ∷ line; state = t }
 unfolding resetTag
-run-session s bits sound =
+run-reset s bits sound e =
     let next : Sound (afterReset s) = rw (after-event s Event.reset (reset-event s sound)) at (sound-after Event.reset sound) in
     run-event s Event.reset (map Event.slot bits) (reset-event s sound) ∙
-    ap (λ (r : Ran). record { line = false ∷ r .line; state = r .state }) (run-slots (afterReset s) bits next)
+    ap (λ (r : Ran). record { line = false ∷ r .line; state = r .state }) (run-slots (afterReset s) bits next ∙ e)
+
+-- ---- sessions: a reset, a ROM command that chooses the tag, and what comes after it
+
+-- the tag's number, and the tag chosen in this way: a memory command comes next
+abbrev pub numberOf : State → ℕ
+numberOf s = s .tag .exchange .number
+
+abbrev pub chosenBy : Way → State → Exchange
+chosenBy way s = exchange.chosen (numberOf s) (wayMark way) (s .tag .exchange .held)
+
+-- a reset, a ROM command to this tag, and these slots
+abbrev pub session : State → Way → List Bool → List Event
+session s way bits = Event.reset ∷ map Event.slot (waySlots way (numberOf s) ++ bits)
+
+-- what the line carries up to the end of the ROM command: the presence, then the command's slots
+abbrev pub greeting : State → Way → List Bool
+greeting s way = false ∷ wayLine way (numberOf s)
+
+module _ (s : State) (sound : Sound s) (way : Way) where
+  -- the ROM command alone
+  pub session-way : run s (Event.reset ∷ map Event.slot (waySlots way (numberOf s))) ≡
+      record { line = greeting s way; state = withExchange s (chosenBy way s) }
+  session-way =
+      run-reset s (waySlots way (numberOf s)) sound
+      (slots-quiet (afterReset s) (waySlots way (numberOf s)) (run-way (answersOf s) (s .tag .exchange) way))
+
+  chosen-quiet : (bits : List Bool) {x : Exchange} {line : List Bool} →
+      exchange.run (answersOf s) (chosenBy way s) bits ≡ exchange.quietly x line →
+      slots (afterReset s) (waySlots way (numberOf s) ++ bits) ≡ record { line = wayLine way (numberOf s) ++ line; state = withExchange s x }
+  chosen-quiet bits e =
+      let x = s .tag .exchange in
+      slots-quiet (afterReset s) (waySlots way (numberOf s) ++ bits)
+      (quiet-then (answersOf s) (exchange-reset x) (waySlots way (x .number)) bits (run-way (answersOf s) x way) e)
+
+  -- what does nothing after it
+  pub session-quiet : (bits : List Bool) {x : Exchange} {line : List Bool} →
+      exchange.run (answersOf s) (chosenBy way s) bits ≡ exchange.quietly x line →
+      run s (session s way bits) ≡ record { line = greeting s way ++ line; state = withExchange s x }
+  session-quiet bits e = run-reset s (waySlots way (numberOf s) ++ bits) sound (chosen-quiet bits e)
+
+  -- and after that anything
+  pub session-then : (bits more : List Bool) {x : Exchange} {line rest : List Bool} {t : State} →
+      exchange.run (answersOf s) (chosenBy way s) bits ≡ exchange.quietly x line →
+      slots (withExchange s x) more ≡ record { line = rest; state = t } →
+      run s (session s way (bits ++ more)) ≡ record { line = greeting s way ++ (line ++ rest); state = t }
+  session-then bits more {x} {line} {rest} p q =
+      run-reset s (waySlots way (numberOf s) ++ (bits ++ more)) sound
+      (rw (← append-assoc (waySlots way (numberOf s)) bits more, ← append-assoc (wayLine way (numberOf s)) line rest)
+      (slots-then (afterReset s) (waySlots way (numberOf s) ++ bits) more (chosen-quiet bits p) q))
+
+-- ---- what a session leaves that does nothing
+
+-- nothing has changed but the bus state and the Resume mark
+pub record Kept (before after : State) : Type 0 where
+  pub image : after .image ≡ before .image
+  pub code : after .tag .code ≡ before .tag .code
+  pub counters : after .tag .counters ≡ before .tag .counters
+  pub number : numberOf after ≡ numberOf before
+  pub held : after .tag .exchange .held ≡ before .tag .exchange .held
+
+-- these line bits, and nothing has changed
+pub kept-by : (s : State) {mark : Bool} {bus : Bus} {line : List Bool} {ran : Ran} →
+    ran ≡ record { line = line; state = withExchange s (exchange.commanding (numberOf s) mark (s .tag .exchange .held) bus) } →
+    (ran .line ≡ line) × Kept s (ran .state)
+kept-by s e = rw e (refl, record { image = refl; code = refl; counters = refl; number = refl; held = refl })

@@ -1,0 +1,166 @@
+-- What Write Scratchpad wrote, Read Scratchpad shows; with a password that may, Copy stores exactly that through the tables and
+-- sends 0,1,0,1 on; Read Memory gives it back. With one that may not, Copy stores nothing and the line is the master's. (Document 01,
+-- "Memory commands".) A reached tag's scratchpad has 32 bytes (`reached-pad`). Assumes nothing.
+use mathlib.Core.Path.{_≡_, refl, ap, _∙_}
+use mathlib.Core.Bool.{Bool, true, false, and-false}
+use mathlib.Core.List.{List, [], _∷_, _++_}
+use mathlib.Core.Logic.{_⊎_, inl, inr, ⊎-elim}
+use Prim.Native.Nat.{ℕ, _+_, _-_, _*_, _%_, _^_, _≤_, _<_}
+use native.Mathlib.Omega.{arith}
+use lib.Dec.{eqb}
+use lib.ListN.{length, getD}
+use Rattle.bits.specs.Bits.{bitsOf}
+use Rattle.crc.specs.Crc.{crc16Run, sentLow, sentHigh}
+use Rattle.dump.specs.Lines.{bytesFrom}
+use Rattle.exchange.specs.Runs.{commanding, Way, wayMark}
+use Rattle.exchange.specs.Runs.Laws.{quiet-then, run-quiet}
+use Rattle.exchange.specs.Runs.Commands.{zeroOnes, run-copied}
+use Rattle.image.specs.Answers.{mayRead, mayCopy}
+use Rattle.image.specs.Answers.Laws.{control-right, copy-user, copy-idle}
+use Rattle.image.specs.Registers.{mip, fullPassword}
+use Rattle.image.specs.Sent.{sentAt}
+use Rattle.image.specs.Stored.{storedRun, storedPage}
+use Rattle.memory.specs.declared.Deed.{Deed}
+use Rattle.memory.specs.declared.Guarded.{Guarded}
+use Rattle.memory.specs.declared.Hearing.{Hearing}
+use Rattle.memory.specs.declared.Question.{Question}
+use Rattle.memory.specs.declared.Stage.{Stage}
+use Rattle.memory.specs.Bus.{clearBus, goTo, statusByte}
+use Rattle.memory.specs.Field.{copies, accepted}
+use Rattle.memory.specs.Runs.{slotsOf, released}
+use Rattle.memory.specs.Runs.Scratchpad.{overAt, padBytes, read-scratchpad, writeHead, writtenTo, write-scratchpad}
+use Rattle.tag.specs.Tag.{answerTo, performed, performedCounters}
+use Rattle.promises.specs.Runs.{State, run}
+use Rattle.promises.specs.Runs.Laws.{Sound, sound-run}
+use Rattle.promises.specs.Line.Slots.{numberOf, session, greeting, session-quiet, session-then, slots-quiet, slots-lastly, slots-then, answersOf, withExchange, afterDeed, Kept, kept-by}
+use Rattle.promises.specs.Line.ReadRun.{readHead, readSlots, pageSent, sentWith}
+use Rattle.promises.specs.Line.Reading.{reads-memory}
+use Rattle.promises.specs.Line.Back.{plain-back}
+use Rattle.promises.specs.Line.CopyRun.{copyHead, copyBus, copy-head, copy-field, copy-other, copies-right, status-lt, rest-of-page}
+
+-- ---- Write Scratchpad, Read Scratchpad
+
+-- the slots of a Write Scratchpad: 0Fh, TA1, TA2, the data to the page's end, and the CRC-16
+abbrev pub writeSlots : ℕ → List ℕ → List Bool
+writeSlots address bytes = slotsOf (writeHead address ++ bytes) ++ released 16
+
+-- after data up to the page's end the CRC-16 over command, address and data is on the line; TA and data are held
+pub writes-scratchpad : (s : State) (sound : Sound s) (way : Way) (address : ℕ) (bytes : List ℕ) → length (s .tag .exchange .held .pad) ≡ 32 →
+    address < 65536 → address % 32 + length bytes ≡ 32 → ((i : ℕ) → getD bytes i 0 < 256) →
+    let sent = writeHead address ++ bytes in
+    let crc = crc16Run 0 sent in
+    run s (session s way (writeSlots address bytes)) ≡
+    record {
+      line = greeting s way ++ (slotsOf sent ++ slotsOf (sentLow crc ∷ sentHigh crc ∷ []));
+      state = withExchange s (commanding (numberOf s) (wayMark way) (writtenTo (s .tag .exchange .held) address bytes) (overAt crc address));
+    }
+writes-scratchpad s sound way address bytes long fits end small =
+    let held = s .tag .exchange .held in
+    session-quiet s sound way (writeSlots address bytes)
+    (run-quiet (answersOf s) (numberOf s) (wayMark way) held (clearBus (Stage.Hears Hearing.Command)) (writeSlots address bytes)
+    (write-scratchpad (answersOf s) held address bytes long fits end small))
+
+-- Read Scratchpad shows TA1, TA2, E/S and the data from the offset on, with their CRC-16
+pub reads-scratchpad : (s : State) (sound : Sound s) (way : Way) → length (s .tag .exchange .held .pad) ≡ 32 →
+    let held = s .tag .exchange .held in
+    let crc = crc16Run 0 (0xAA ∷ padBytes held) in
+    let ran = run s (session s way (bitsOf 8 0xAA ++ released ((3 + (32 - held .ta % 32) + 2) * 8))) in
+    (ran .line ≡ greeting s way ++ slotsOf (0xAA ∷ padBytes held ++ (sentLow crc ∷ sentHigh crc ∷ []))) × Kept s (ran .state)
+reads-scratchpad s sound way long =
+    let held = s .tag .exchange .held in
+    kept-by s (session-quiet s sound way _
+    (run-quiet (answersOf s) (numberOf s) (wayMark way) held (clearBus (Stage.Hears Hearing.Command)) _ (read-scratchpad (answersOf s) held long)))
+
+-- ---- Copy
+
+-- the slots of a Copy: 99h, TA1, TA2, E/S, the eight password bytes, and 2n slots more
+abbrev pub copySlots : ℕ → ℕ → ℕ → ℕ → List Bool
+copySlots address status field n = slotsOf (copyHead address status) ++ (bitsOf 64 field ++ released (n * 2))
+
+-- the full password may copy to user memory, and with no mission to registers and calibration
+pub right-copies : (image : List ℕ) (address : ℕ) → (address < 0x0200) ⊎ ((address < 0x0280) × (mip image ≡ false)) →
+    mayCopy image (fullPassword image) address ≡ true
+right-copies image address =
+    ⊎-elim
+    (λ user. copy-user image (fullPassword image) address user ∙ control-right image)
+    (λ idle. copy-idle image (fullPassword image) address (idle .0) (idle .1) ∙ control-right image)
+
+-- Copy with the address and E/S as held, up to the page's end, and a password that may: the bytes are stored through the tables,
+-- AA is set, and 0,1,0,1 follows
+pub copies-page : (s : State) (sound : Sound s) (way : Way) (field n : ℕ) → field < 2 ^ 64 →
+    let held = s .tag .exchange .held in
+    held .ta < 65536 → held .ending ≡ 0x1F → held .pf ≡ false → mayCopy (s .image) field (held .ta) ≡ true →
+    let ran = run s (session s way (copySlots (held .ta) (statusByte held) field n)) in
+    (ran .line ≡ greeting s way ++ (slotsOf (copyHead (held .ta) (statusByte held)) ++ (bitsOf 64 field ++ zeroOnes n)))
+    × (ran .state .image ≡ storedPage (s .image) (held .pad) (held .ta))
+    × (ran .state .tag .counters ≡ s .tag .counters)
+    × (ran .state .tag .exchange .held ≡ accepted held)
+unfolding answerTo performed performedCounters
+copies-page s sound way field n fits low full whole may =
+    let held = s .tag .exchange .held in
+    let number = numberOf s in
+    let mark = wayMark way in
+    let bus = copyBus (held .ta) (statusByte held) in
+    let answer : eqb (answersOf s (Question.MayCopy field (held .ta))) 1 ≡ true = rw may in
+    let headed = withExchange s (commanding number mark held (goTo bus (Stage.Gathers Guarded.Copying))) in
+    let done = afterDeed Deed.Store headed (commanding number mark (accepted held) (goTo bus Stage.Copied)) in
+    rw (session-then s sound way (slotsOf (copyHead (held .ta) (statusByte held))) (bitsOf 64 field ++ released (n * 2))
+    (copy-head (answersOf s) number mark held (held .ta) (statusByte held) low (status-lt held))
+    (slots-then headed (bitsOf 64 field) (released (n * 2))
+    (slots-lastly headed (bitsOf 64 field) 63 Deed.Store
+    (copy-field (answersOf s) number mark held bus field fits (copies-right held full whole answer)))
+    (slots-quiet done (released (n * 2)) (run-copied (answersOf done) number mark (accepted held) bus n))))
+    (refl, refl, refl, refl)
+
+-- with a password or an address that may not, nothing is stored, AA stays, and the line is the master's, whatever follows
+pub copies-nothing : (s : State) (sound : Sound s) (way : Way) (address status field : ℕ) (bits : List Bool) → address < 65536 → status < 256 → field < 2 ^ 64 →
+    mayCopy (s .image) field address ≡ false →
+    let slots = slotsOf (copyHead address status) ++ (bitsOf 64 field ++ bits) in
+    let ran = run s (session s way slots) in
+    (ran .line ≡ greeting s way ++ slots) × Kept s (ran .state)
+unfolding answerTo copies
+copies-nothing s sound way address status field bits fits small whole shut =
+    let held = s .tag .exchange .held in
+    let number = numberOf s in
+    let mark = wayMark way in
+    let bus = copyBus address status in
+    let undone : copies held bus (eqb (answersOf s (Question.MayCopy field address)) 1) ≡ false = rw shut (simp and-false) in
+    kept-by s (session-quiet s sound way _
+    (quiet-then (answersOf s) _ (slotsOf (copyHead address status)) _ (copy-head (answersOf s) number mark held address status fits small)
+    (copy-other (answersOf s) number mark held bus field bits whole undone)))
+
+-- Write Scratchpad, and after another reset Copy with E/S 1Fh and a password that may: exactly the bytes written are stored
+pub writes-and-copies : (s : State) (sound : Sound s) (way again : Way) (address field n : ℕ) (bytes : List ℕ) → length (s .tag .exchange .held .pad) ≡ 32 →
+    address < 65536 → address % 32 + length bytes ≡ 32 → ((i : ℕ) → getD bytes i 0 < 256) → field < 2 ^ 64 → mayCopy (s .image) field address ≡ true →
+    let written = run s (session s way (writeSlots address bytes)) .state in
+    let ran = run written (session written again (copySlots address 0x1F field n)) in
+    (ran .line ≡ greeting written again ++ (slotsOf (copyHead address 0x1F) ++ (bitsOf 64 field ++ zeroOnes n)))
+    × (ran .state .image ≡ storedRun (s .image) address bytes)
+    × (ran .state .tag .counters ≡ s .tag .counters)
+unfolding statusByte storedPage
+writes-and-copies s sound way again address field n bytes long fits end small whole may =
+    let held = writtenTo (s .tag .exchange .held) address bytes in
+    let crc = crc16Run 0 (writeHead address ++ bytes) in
+    let written = withExchange s (commanding (numberOf s) (wayMark way) held (overAt crc address)) in
+    let wrote = writes-scratchpad s sound way address bytes long fits end small in
+    let still : Sound written = rw wrote at (sound-run (session s way (writeSlots address bytes)) sound) in
+    let copied = copies-page written still again field n whole fits refl refl may in
+    rw wrote
+    (copied .0, copied .1 ∙ ap (storedRun (s .image) address) (rest-of-page (s .tag .exchange .held .pad) address bytes long), copied .2)
+
+-- and a Read Memory there gives them back: user memory and calibration as they were written, with their CRC-16
+pub reads-back : (s copied : State) (sound : Sound copied) (way : Way) (address field : ℕ) (bytes : List ℕ) → length (s .image) ≡ 8832 →
+    copied .image ≡ storedRun (s .image) address bytes → address % 32 + length bytes ≡ 32 → (address < 0x0200) ⊎ ((0x0240 ≤ address) × (address < 0x0280)) →
+    field < 2 ^ 64 → mayRead (copied .image) field ≡ true →
+    run copied (session copied way (readSlots address field)) .line ≡
+    greeting copied way ++ (slotsOf (readHead address) ++ (bitsOf 64 field ++ slotsOf (sentWith address bytes)))
+unfolding pageSent
+reads-back s copied sound way address field bytes long same end lies fits may =
+    let code = copied .tag .code in
+    let count : 32 - address % 32 ≡ length bytes = omega arith in
+    let low : address + length bytes ≤ 0x0280 = ⊎-elim (λ user. omega arith) (λ calibration. omega arith) lies in
+    let apart : (address + length bytes ≤ 0x0200) ⊎ (0x0240 ≤ address) = ⊎-elim (λ user. inl (omega arith)) (λ calibration. inr (calibration .0)) lies in
+    let back : bytesFrom (sentAt (copied .image) code) address (32 - address % 32) ≡ bytes =
+    rw (same, count) (plain-back (s .image) code address bytes long low apart) in
+    reads-memory copied sound way address field fits (⊎-elim (λ user. omega arith) (λ calibration. omega arith) lies) may .0 ∙
+    ap (λ (b : List ℕ). greeting copied way ++ (slotsOf (readHead address) ++ (bitsOf 64 field ++ slotsOf (sentWith address b)))) back
