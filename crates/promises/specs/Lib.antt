@@ -1,5 +1,6 @@
 pub mod Runs
 pub mod Demand1
+pub mod Demand3
 pub mod Line
 pub mod Determinacy
 pub mod Points

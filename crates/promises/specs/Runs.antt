@@ -44,10 +44,10 @@ happens s e = step (s .image) (s .tag) (codeOf e) (readingOf e)
 unfoldable pub after : State → Event → State
 after s e = leaves (happens s e)
 
-unfoldable pub lineBit : State → Event → Bool
+abbrev pub lineBit : State → Event → Bool
 lineBit s e = happens s e .answered .line
 
-unfoldable pub Accepts : State → Event → Type 0
+abbrev pub Accepts : State → Event → Type 0
 Accepts s e = happens s e .answered .answer ≡ Answer.Accepted
 
 -- ---- events one after the other
@@ -89,3 +89,9 @@ Together P s [] t [] = Unit {0}
 Together P s [] t (f ∷ fs) = ⊥
 Together P s (e ∷ es) t [] = ⊥
 Together P s (e ∷ es) t (f ∷ fs) = P s e t f × Together P (after s e) es (after t f) fs
+
+-- of a slot with this bit of the master; nothing is said of resets and ticks
+abbrev pub OnSlots : (State → Bool → Type 0) → State → Event → Type 0
+OnSlots P s (Event.slot bit) = P s bit
+OnSlots P s Event.reset = Unit {0}
+OnSlots P s (Event.tick reading) = Unit {0}

@@ -108,10 +108,16 @@ module _ (answers : Question → ℕ) (number : ℕ) (mark : Bool) (held : Held)
 abbrev pub readSlots : ℕ → ℕ → List Bool
 readSlots address field = slotsOf (readHead address) ++ (bitsOf 64 field ++ released ((34 - address % 32) * 8))
 
--- where it stands then: the next page follows, if there is one
+-- where it stands when a page has gone out whose last address and CRC-16 are these: the next page follows, if there is one
+abbrev pub pageEnd : ℕ → ℕ → Bus
+pageEnd crc last = afterPage (goTo (overAt crc last) (Stage.Sends (Sending.CrcHigh Next.Page)))
+
+-- the last address of a page
+abbrev pub lastOf : ℕ → ℕ
+lastOf address = address + (31 - address % 32)
+
 abbrev pub readEnd : ℕ → List ℕ → Bus
-readEnd address bytes =
-    afterPage (goTo (overAt (crc16Run 0 (readHead address ++ bytes)) (address + (31 - address % 32))) (Stage.Sends (Sending.CrcHigh Next.Page)))
+readEnd address bytes = pageEnd (crc16Run 0 (readHead address ++ bytes)) (lastOf address)
 
 module _ (answers : Question → ℕ) (number : ℕ) (mark : Bool) (held : Held) (address field : ℕ) (fits : field < 2 ^ 64) where
   pub read-run : address < 0x3000 → eqb (answers (Question.MayRead field)) 1 ≡ true →
@@ -143,3 +149,51 @@ module _ (answers : Question → ℕ) (number : ℕ) (mark : Bool) (held : Held)
       quiet-then answers _ (slotsOf (readHead address)) _ (head answers number mark held address whole)
       (quiet-then answers _ (bitsOf 64 field) bits (may-read answers number mark held start field fits (rw shut))
       (run-over answers number mark held start bits))
+
+-- ---- the pages after it
+
+-- what is sent of each: "CRC-16 over its data alone"
+abbrev pub nextSent : List ℕ → List ℕ
+nextSent bytes = bytes ++ (sentLow (crc16Run 0 bytes) ∷ sentHigh (crc16Run 0 bytes) ∷ [])
+
+-- n pages from a page on
+unfoldable pub pagesSent : (ℕ → ℕ) → ℕ → ℕ → List ℕ
+pagesSent byte page zero = []
+pagesSent byte page (suc n) = nextSent (bytesFrom byte page 32) ++ pagesSent byte (page + 32) n
+
+-- the CRC-16 of the last of them, or this one if there is none
+unfoldable pub lastCrc : (ℕ → ℕ) → ℕ → ℕ → ℕ → ℕ
+lastCrc byte crc page zero = crc
+lastCrc byte crc page (suc n) = lastCrc byte (crc16Run 0 (bytesFrom byte page 32)) (page + 32) n
+
+module _ (answers : Question → ℕ) (number : ℕ) (mark : Bool) (held : Held) where
+  next-run : (crc last : ℕ) → last % 32 ≡ 31 → last < 0x2FFF →
+      let bytes = bytesFrom (byteAt answers number mark held) (last + 1) 32 in
+      run answers (commanding number mark held (pageEnd crc last)) (released (34 * 8)) ≡
+      quietly (commanding number mark held (pageEnd (crc16Run 0 bytes) (last + 32))) (slotsOf (nextSent bytes))
+  unfolding afterPage
+  next-run crc last whole more =
+      let start = overAt 0 (last + 1) in
+      let bytes = bytesFrom (byteAt answers number mark held) (last + 1) 32 in
+      let there : last + 1 + 31 ≡ last + 32 = omega arith in
+      rw (lt-ltb last 0x2FFF more, slots-join bytes _, ← there)
+      (quiet-then answers _ (released (32 * 8)) (released 16) (page-run answers number mark held start 31 (omega arith))
+      (crc-run answers number mark held (readOn answers number mark held start 31 bytes)))
+
+  -- "then each next page and CRC-16 over its data alone, up to 2FFFh"
+  pub pages-run : (n crc last : ℕ) → last % 32 ≡ 31 → last + 32 * n < 0x3000 →
+      let byte : ℕ → ℕ = λ a. answers (Question.Byte a) in
+      run answers (commanding number mark held (pageEnd crc last)) (released (n * 272)) ≡
+      quietly (commanding number mark held (pageEnd (lastCrc byte crc (last + 1) n) (last + 32 * n))) (slotsOf (pagesSent byte (last + 1) n))
+  unfolding pagesSent lastCrc flatMap
+  pages-run zero crc last whole low =
+      let same : last + 32 * 0 ≡ last = omega arith in
+      rw same (run-nil answers _)
+  pages-run (suc n) crc last whole low =
+      let bytes = bytesFrom (byteAt answers number mark held) (last + 1) 32 in
+      let times : suc n * 272 ≡ 272 + n * 272 = omega arith in
+      let page : last + 1 + 32 ≡ last + 32 + 1 = omega arith in
+      let end : last + 32 * suc n ≡ last + 32 + 32 * n = omega arith in
+      rw (times, ← replicate-append-replicate 272 (n * 272) true, slots-join (nextSent bytes) _, page, end)
+      (quiet-then answers _ (released 272) (released (n * 272)) (next-run crc last whole (omega arith))
+      (pages-run n (crc16Run 0 bytes) (last + 32) (omega arith) (omega arith)))

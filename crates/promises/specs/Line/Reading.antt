@@ -4,12 +4,15 @@
 use mathlib.Core.Path.{_≡_, refl, _∙_}
 use mathlib.Core.Bool.{Bool, true, false, _&&_}
 use mathlib.Core.List.{List, [], _∷_, _++_, map}
-use Prim.Native.Nat.{ℕ, _/_, _%_, _^_, _<_}
+use Prim.Native.Nat.{ℕ, _+_, _-_, _*_, _/_, _%_, _^_, _<_}
+use native.Mathlib.Omega.{arith}
 use lib.Dec.{eqb, ltb}
 use Rattle.bits.specs.Bits.{bitsOf, digit}
+use Rattle.crc.specs.Crc.{crc16Run}
 use Rattle.dump.specs.Dump.{dumpOf, dump-line}
-use Rattle.dump.specs.Lines.{pageOf, pageCrc, lineBytes, lineOf, lineAt}
+use Rattle.dump.specs.Lines.{pageOf, pageCrc, lineBytes, lineOf, lineAt, bytesFrom}
 use Rattle.exchange.specs.Runs.{Way, waySlots, wayLine, wayMark}
+use Rattle.exchange.specs.Runs.Laws.{quiet-then}
 use Rattle.hex.specs.Hex.{hexText}
 use Rattle.image.specs.Answers.{mayRead}
 use Rattle.image.specs.Sent.{sentAt}
@@ -19,7 +22,7 @@ use Rattle.tag.specs.Tag.{answerTo}
 use Rattle.promises.specs.Runs.{State, Event, run}
 use Rattle.promises.specs.Runs.Laws.{Sound}
 use Rattle.promises.specs.Line.Slots.{numberOf, session, greeting, session-way, session-quiet, answersOf, Kept, kept-by}
-use Rattle.promises.specs.Line.ReadRun.{readHead, readSlots, pageSent, sentWith, read-run, unread-run}
+use Rattle.promises.specs.Line.ReadRun.{readHead, readSlots, pageSent, sentWith, lastOf, pagesSent, read-run, pages-run, unread-run}
 use Rattle.promises.specs.Line.Pages.{page-low, page-aligned}
 
 -- ---- Read ROM
@@ -50,6 +53,24 @@ module _ (s : State) (sound : Sound s) (way : Way) (address field : ℕ) (fits :
       let x = s .tag .exchange in
       let answer : eqb (answersOf s (Question.MayRead field)) 1 ≡ true = rw may in
       kept-by s (session-quiet s sound way (readSlots address field) (read-run (answersOf s) (x .number) (wayMark way) (x .held) address field fits low answer))
+
+  -- and of n pages more their bytes, each with the CRC-16 over its data alone, up to 2FFFh
+  pub reads-pages : (n : ℕ) → lastOf address + 32 * n < 0x3000 → mayRead (s .image) field ≡ true →
+      let byte = sentAt (s .image) (s .tag .code) in
+      let ran = run s (session s way (readSlots address field ++ released (n * 272))) in
+      (ran .line ≡ greeting s way ++
+      ((slotsOf (readHead address) ++ (bitsOf 64 field ++ slotsOf (pageSent byte address))) ++ slotsOf (pagesSent byte (lastOf address + 1) n)))
+      × Kept s (ran .state)
+  unfolding answerTo
+  reads-pages n low may =
+      let x = s .tag .exchange in
+      let bytes = bytesFrom (sentAt (s .image) (s .tag .code)) address (32 - address % 32) in
+      let answer : eqb (answersOf s (Question.MayRead field)) 1 ≡ true = rw may in
+      kept-by s
+      (session-quiet s sound way (readSlots address field ++ released (n * 272))
+      (quiet-then (answersOf s) _ (readSlots address field) (released (n * 272))
+      (read-run (answersOf s) (x .number) (wayMark way) (x .held) address field fits (omega arith) answer)
+      (pages-run (answersOf s) (x .number) (wayMark way) (x .held) n (crc16Run 0 (readHead address ++ bytes)) (lastOf address) (omega arith) low)))
 
   -- with any other password, or past 2FFFh, nothing but 1s: the line is the master's, whatever follows
   pub reads-nothing : (bits : List Bool) → address < 65536 → (ltb address 0x3000 && mayRead (s .image) field) ≡ false →

@@ -142,7 +142,7 @@ Valid Event.reset = Unit {0}
 Valid (Event.tick reading) = reading ≤ 2047
 
 pub sound-accepts : {s : State} → Sound s → (e : Event) → Valid e → Accepts s e
-unfolding Accepts slotted resetTag tickTag
+unfolding slotted resetTag tickTag
 sound-accepts sound (Event.slot bit) valid = rw (slot-happens sound bit)
 sound-accepts sound Event.reset valid = rw (reset-happens sound)
 sound-accepts sound (Event.tick reading) valid = rw (tick-happens sound reading valid)

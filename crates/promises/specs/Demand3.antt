@@ -1,0 +1,120 @@
+-- Demand 3 of the order: what a person without a password can learn from the line, and what he can spoil. First the words that the
+-- statement uses, then its premises, then what it concludes. `demand3` in Demand3/Proof.antt proves it. Assumes nothing.
+use mathlib.Core.Path.{_≡_}
+use mathlib.Core.Bool.{Bool, true, false}
+use mathlib.Core.List.{List, [], _∷_}
+use mathlib.Core.Logic.{_≢_, _⊎_}
+use Prim.Native.Nat.{ℕ, _≤_}
+use Rattle.bits.specs.Bits.{shiftIn}
+use Rattle.exchange.specs.declared.Exchange.{Exchange}
+use Rattle.image.specs.Answers.{alarmed}
+use Rattle.image.specs.Keeps.{Run}
+use Rattle.image.specs.Registers.{mip, eosc, passwordControl, readPassword, fullPassword}
+use Rattle.memory.specs.declared.Control.{Control}
+use Rattle.memory.specs.declared.Guarded.{Guarded}
+use Rattle.memory.specs.declared.Hearing.{Hearing}
+use Rattle.memory.specs.declared.Stage.{Stage}
+use Rattle.mission.specs.Leaves.{Flag, Leaves}
+use Rattle.select.specs.Select.{isSelected, asksAlarm}
+use Rattle.promises.specs.Runs.{State, Event, after, run, ticksOf, Reached, Always, Together, OnSlots}
+pub mod Slot
+pub mod Image
+pub mod Left
+pub mod Reset
+pub mod Proof
+
+-- ---- three kinds of slot, read off the record and the master's bit
+
+-- *field*: this slot is the last bit of a password field, and these are its eight bytes as a number, low byte first. The tag is chosen,
+-- by "a ROM command that was not failed", and gathers what follows 99h TA1 TA2 E/S, 69h TA1 TA2, 96h, CCh or 33h.
+pub record EndsField (x : Exchange) (bit : Bool) (field : ℕ) : Type 0 where
+  pub chosen : isSelected (x .select) ≡ true
+  pub gathered : (g : Guarded) × (x .bus .stage ≡ Stage.Gathers g)
+  pub last : x .bus .at ≡ 63
+  pub bytes : shiftIn 64 (x .bus .field) bit ≡ field
+
+-- *conditional*: this slot is the last bit of a ROM command byte ECh
+abbrev pub Conditional : Exchange → Bool → Type 0
+Conditional x bit = asksAlarm (x .select) bit ≡ true
+
+-- this slot is the last bit of FFh after 55h
+pub record Forces (x : Exchange) (bit : Bool) : Type 0 where
+  pub chosen : isSelected (x .select) ≡ true
+  pub awaited : x .bus .stage ≡ Stage.Hears (Hearing.Confirm Control.Convert)
+  pub last : x .bus .at ≡ 7
+  pub byte : shiftIn 8 (x .bus .byte) bit ≡ 0xFF
+
+-- *converted*: and MIP is 0 in the image, so a Forced Conversion is done
+abbrev pub Converted : State → Bool → Type 0
+Converted s bit = Forces (s .tag .exchange) bit × (mip (s .image) ≡ false)
+
+-- ---- the premises
+
+-- 1. "two tags just after a reset", each reached from a new one by events
+pub record JustReset (s : State) : Type 0 where
+  pub before : State
+  pub reached : Reached before
+  pub reset : s ≡ after before Event.reset
+
+-- 3. "the same slots and resets, and ticks at the same places with valid readings that may differ"
+pub data Alike : Event → Event → Type 0 where
+  slots : (bit : Bool) → Alike (Event.slot bit) (Event.slot bit)
+  resets : Alike Event.reset Event.reset
+  ticks : (p q : ℕ) → p ≤ 2047 → q ≤ 2047 → Alike (Event.tick p) (Event.tick q)
+
+-- 4. "no password field ever carries" a password of this image
+abbrev pub NoPassword : List ℕ → State → Event → Type 0
+NoPassword image = OnSlots (λ s bit. (field : ℕ) → EndsField (s .tag .exchange) bit field → (field ≢ readPassword image) × (field ≢ fullPassword image))
+
+-- 5. "at each completed Conditional Search command both or neither have an alarm flag (BOR, THF or TLF) set"
+abbrev pub AlarmsAgree : State → Event → State → Event → Type 0
+AlarmsAgree s e t f = OnSlots (λ u bit. Conditional (u .tag .exchange) bit → alarmed (s .image) ≡ alarmed (t .image)) s e
+
+pub record Premises (s t : State) (E F : List Event) : Type 0 where
+  pub reset-s : JustReset s
+  pub reset-t : JustReset t
+  -- 2. "with password checking on, the same registration number, and equal scratchpad, address registers and Resume mark"; `held` is
+  -- scratchpad, TA and E/S. "All else may differ"
+  pub checked-s : passwordControl (s .image) ≡ 0xAA
+  pub checked-t : passwordControl (t .image) ≡ 0xAA
+  pub number : s .tag .exchange .number ≡ t .tag .exchange .number
+  pub held : s .tag .exchange .held ≡ t .tag .exchange .held
+  pub mark : s .tag .exchange .select .mark ≡ t .tag .exchange .select .mark
+  pub alike : Together (λ u e v f. Alike e f) s E t F
+  -- any of "their four passwords", in either run
+  pub fields-s : Always (λ u e. NoPassword (s .image) u e × NoPassword (t .image) u e) s E
+  pub fields-t : Always (λ u e. NoPassword (s .image) u e × NoPassword (t .image) u e) t F
+  pub alarms : Together AlarmsAgree s E t F
+
+-- ---- what follows
+
+-- no Forced Conversion is done
+abbrev pub Unconverted : State → List Event → Type 0
+Unconverted s E = Always (OnSlots (λ u bit. Converted u bit → ⊥)) s E
+
+-- what Forced Conversions "may change": "the latest reading, the device samples counter", "and the clock", if it stood still at first;
+abbrev pub spoiltRuns : Bool → List Run
+spoiltRuns true = (0x020C, 2) ∷ (0x0223, 3) ∷ []
+spoiltRuns false = (0x0200, 6) ∷ (0x020C, 2) ∷ (0x0223, 3) ∷ []
+
+-- "the oscillator bit", bit 0 of 0212h, and "the waiting bit", bit 4 of 0215h
+abbrev pub spoiltFlags : List Flag
+spoiltFlags = (0x0212, 0) ∷ (0x0215, 4) ∷ []
+
+-- "Outside the scratchpad, address registers, Resume mark and bus state, each tag ends as the ticks alone would have left it, save that
+-- Forced Conversions with no mission running may change" this
+pub record LeftToTicks (s : State) (E : List Event) : Type 0 where
+  pub number : run s E .state .tag .exchange .number ≡ run s (ticksOf E) .state .tag .exchange .number
+  pub code : run s E .state .tag .code ≡ run s (ticksOf E) .state .tag .code
+  pub counters : run s E .state .tag .counters ≡ run s (ticksOf E) .state .tag .counters
+  pub untouched : (mip (s .image) ≡ true) ⊎ Unconverted s E → run s E .state .image ≡ run s (ticksOf E) .state .image
+  pub spoilt : Leaves (spoiltRuns (eosc (s .image))) spoiltFlags (run s (ticksOf E) .state .image) (run s E .state .image)
+
+pub record Conclusions (s t : State) (E F : List Event) : Type 0 where
+  -- "every bit on the line is the same"
+  pub line : run s E .line ≡ run t F .line
+  pub left-s : LeftToTicks s E
+  pub left-t : LeftToTicks t F
+
+abbrev pub Demand3 : Type 0
+Demand3 = (s t : State) (E F : List Event) → Premises s t E F → Conclusions s t E F

@@ -1,0 +1,136 @@
+-- Demand 3: two tags that stand alike go on alike, since no password lets them part; each is left to its ticks. Assumes nothing.
+use mathlib.Core.Path.{_≡_, sym, ap, _∙_, subst}
+use mathlib.Core.Bool.{Bool, false}
+use mathlib.Core.List.{List}
+use Prim.Native.Nat.{ℕ}
+use Rattle.exchange.specs.declared.Exchange.{Exchange}
+use Rattle.exchange.specs.declared.Slotted.{Slotted}
+use Rattle.exchange.specs.Exchange as exchange
+use Rattle.exchange.specs.Exchange.Laws as exchange-laws
+use Rattle.image.specs.Answers.{alarmed}
+use Rattle.memory.specs.Phases.{opened, lets}
+use Rattle.tag.specs.Tag.{Outcome, answerTo, slotted, resetTag, tickTag}
+use Rattle.promises.specs.Demand3.{Conditional, Alike, NoPassword, AlarmsAgree, Demand3}
+use Rattle.promises.specs.Demand3.Reset.{reset-again, reset-opened, begins-guarded}
+use Rattle.promises.specs.Demand3.Left.{NoFull, Guards, guards-checked, guards-range, guards-after, left-to-ticks}
+use Rattle.promises.specs.Demand3.Slot.{alarm-asked, unlet}
+use Rattle.promises.specs.Runs.{State, Event, after, lineBit}
+use Rattle.promises.specs.Runs.Laws.{relation, always-map, together-with, slot-happens, reset-happens, tick-happens}
+
+-- ---- one event of two tags that stand alike
+
+-- both check passwords, no password led anywhere, and their exchanges are equal; i and j are the images that they began with
+pub record Twins (i j : List ℕ) (s t : State) : Type 0 where
+  pub guards-s : Guards i s
+  pub guards-t : Guards j t
+  pub shut : opened (s .tag .exchange .bus .stage) ≡ false
+  pub same : s .tag .exchange ≡ t .tag .exchange
+
+-- what is known of two events that come to them
+abbrev pub Come : List ℕ → List ℕ → State → Event → State → Event → Type 0
+Come i j s e t f = NoPassword i s e × NoPassword j t f × Alike e f × AlarmsAgree s e t f
+
+no-full : (image : List ℕ) (s : State) (e : Event) → NoPassword image s e → NoFull image s e
+no-full image s (Event.slot bit) p = λ field ends. p field ends .1
+no-full image s Event.reset p = tt
+no-full image s (Event.tick reading) p = tt
+
+abbrev lineOf : Outcome → Bool
+lineOf o = o .answered .line
+
+module _ {i j : List ℕ} {s t : State} (w : Twins i j s t) (bit : Bool)
+    (wrong-s : NoPassword i s (Event.slot bit)) (wrong-t : NoPassword j t (Event.slot bit))
+    (alarms : Conditional (s .tag .exchange) bit → alarmed (s .image) ≡ alarmed (t .image)) where
+  -- the answer of one of them, to an exchange in the place of its own
+  answers : State → Exchange → ℕ
+  answers u x = answerTo (u .image) (u .tag .code) (exchange.asks x bit)
+
+  unlet-s : lets (exchange.asks (s .tag .exchange) bit) (answers s (s .tag .exchange)) ≡ false
+  unfolding answers
+  unlet-s =
+      unlet (s .image) (s .tag .code) (s .tag .exchange) bit (guards-range (w .guards-s)) (guards-checked (w .guards-s))
+      (λ field ends. (λ e. wrong-s field ends .0 (e ∙ w .guards-s .keys .read), λ e. wrong-s field ends .1 (e ∙ w .guards-s .keys .full)))
+
+  unlet-t : lets (exchange.asks (t .tag .exchange) bit) (answers t (t .tag .exchange)) ≡ false
+  unfolding answers
+  unlet-t =
+      unlet (t .image) (t .tag .code) (t .tag .exchange) bit (guards-range (w .guards-t)) (guards-checked (w .guards-t))
+      (λ field ends. (λ e. wrong-t field ends .0 (e ∙ w .guards-t .keys .read), λ e. wrong-t field ends .1 (e ∙ w .guards-t .keys .full)))
+
+  agree : exchange.slotOf (s .tag .exchange) bit (answers s (s .tag .exchange)) ≡ exchange.slotOf (t .tag .exchange) bit (answers t (t .tag .exchange))
+  unfolding answers answerTo
+  agree =
+      let x = s .tag .exchange in
+      exchange-laws.shut-agree x bit (answers s x) (answers t x) (w .shut) unlet-s
+      (subst (λ (y : Exchange). lets (exchange.asks y bit) (answers t y) ≡ false) (sym (w .same)) unlet-t)
+      (λ asked. rw (asked, alarms (alarm-asked x bit (guards-range (w .guards-s)) asked)))
+      ∙ ap (λ (y : Exchange). exchange.slotOf y bit (answers t y)) (w .same)
+
+  slot-line : lineBit s (Event.slot bit) ≡ lineBit t (Event.slot bit)
+  unfolding slotted answers
+  slot-line =
+      ap lineOf (slot-happens (w .guards-s .sound) bit) ∙ ap (λ (m : Slotted). m .line) agree ∙ sym (ap lineOf (slot-happens (w .guards-t .sound) bit))
+
+  slot-twins : Twins i j (after s (Event.slot bit)) (after t (Event.slot bit))
+  unfolding after slotted answers
+  slot-twins =
+      let p = slot-happens (w .guards-s .sound) bit in
+      let q = slot-happens (w .guards-t .sound) bit in
+      record {
+        guards-s = guards-after s (Event.slot bit) (w .guards-s) (no-full i s (Event.slot bit) wrong-s);
+        guards-t = guards-after t (Event.slot bit) (w .guards-t) (no-full j t (Event.slot bit) wrong-t);
+        shut = rw p (exchange-laws.shut-after (s .tag .exchange) bit (answers s (s .tag .exchange)) (w .shut) unlet-s);
+        same = rw (p, q) (ap (λ (m : Slotted). m .exchange) agree);
+      }
+
+pub twins-after : {i j : List ℕ} (s : State) (e : Event) (t : State) (f : Event) → Twins i j s t → Come i j s e t f →
+    (lineBit s e ≡ lineBit t f) × Twins i j (after s e) (after t f)
+unfolding after resetTag tickTag
+twins-after s e t f w (wrong-s, wrong-t, Alike.slots bit, alarms) = (slot-line w bit wrong-s wrong-t alarms, slot-twins w bit wrong-s wrong-t alarms)
+twins-after s e t f w (wrong-s, wrong-t, Alike.resets, alarms) =
+    let p = reset-happens (w .guards-s .sound) in
+    let q = reset-happens (w .guards-t .sound) in (
+      ap lineOf p ∙ sym (ap lineOf q),
+      record {
+        guards-s = guards-after s Event.reset (w .guards-s) tt;
+        guards-t = guards-after t Event.reset (w .guards-t) tt;
+        shut = rw p (exchange-laws.reset-shut (s .tag .exchange));
+        same = rw (p, q) (ap exchange.afterReset (w .same));
+      },
+    )
+twins-after s e t f w (wrong-s, wrong-t, Alike.ticks m n small-m small-n, alarms) =
+    let p = tick-happens (w .guards-s .sound) m small-m in
+    let q = tick-happens (w .guards-t .sound) n small-n in (
+      ap lineOf p ∙ sym (ap lineOf q),
+      record {
+        guards-s = guards-after s (Event.tick m) (w .guards-s) tt;
+        guards-t = guards-after t (Event.tick n) (w .guards-t) tt;
+        shut = rw p (w .shut);
+        same = rw (p, q) (w .same);
+      },
+    )
+
+-- ---- demand 3
+
+pub demand3 : Demand3
+demand3 s t E F p =
+    let guards-s = begins-guarded (p .reset-s) (p .checked-s) in
+    let guards-t = begins-guarded (p .reset-t) (p .checked-t) in
+    let fields-s = always-map {Q = NoPassword (s .image)} (λ u e h. h .0) s E (p .fields-s) in
+    let fields-t = always-map {Q = NoPassword (t .image)} (λ u e h. h .1) t F (p .fields-t) in
+    record {
+      line =
+          relation (Twins (s .image) (t .image)) (Come (s .image) (t .image)) twins-after s E t F
+          (record {
+            guards-s = guards-s;
+            guards-t = guards-t;
+            shut = reset-opened (p .reset-s);
+            same = reset-again (p .reset-s)
+                ∙ exchange-laws.reset-agree (s .tag .exchange) (t .tag .exchange) (p .number) (p .mark) (p .held)
+                ∙ sym (reset-again (p .reset-t));
+          })
+          (together-with (NoPassword (s .image)) (NoPassword (t .image)) (λ u e v f. Alike e f) AlarmsAgree s E t F fields-s fields-t (p .alike) (p .alarms))
+          .0;
+      left-s = left-to-ticks s E guards-s (always-map (no-full (s .image)) s E fields-s);
+      left-t = left-to-ticks t F guards-t (always-map (no-full (t .image)) t F fields-t);
+    }
