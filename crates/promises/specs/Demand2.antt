@@ -1,0 +1,106 @@
+-- Demand 2 of the order, the listing: "From a dump of one moment, with no register written and no Clear done since the mission's
+-- start, the dock lists exactly that mission's readings that the log still holds, oldest first, to the format's resolution." What a
+-- mission's readings are is said in `History`, from the settings at Start and the ticks' readings alone; which events are spoken of
+-- in `Demand2.Events`. Assumes nothing.
+use mathlib.Core.Path.{_≡_, ap}
+use mathlib.Core.Bool.{true}
+use mathlib.Core.List.{List, []}
+use Prim.Native.Nat.{ℕ, _+_, _-_, _≤_, _<_, min}
+use lib.IntN.{ℤ, pos}
+use lib.ListN.{length, getD}
+use Rattle.answer.specs.declared.Answer.the-variants.{Accepted, Places}
+use Rattle.dock.specs.Entries.{temperatureOf, secondsOf, periodOf}
+use Rattle.dock.specs.Listing.{refused, listingOf, temperaturesOf, secondsAt}
+use Rattle.dump.specs.Dump.{dumpOf}
+use Rattle.image.specs.Registers
+use Rattle.mission.specs.Mission
+use Rattle.tag.specs.Tag.{goodCode}
+use Rattle.tag.specs.Tag.Laws.{ranges-of}
+use Rattle.promises.specs.Demand2.Course.{reached-solid, solid-run, starts-after, listed-run}
+use Rattle.promises.specs.Demand2.Dumped.{sixBytes}
+use Rattle.promises.specs.Demand2.Events.{Starts, Spares, missionTicks}
+use Rattle.promises.specs.Demand2.Holds.{none, Listed}
+use Rattle.promises.specs.Demand2.Listing.{listing-read, temperature-read, past-read, few-read}
+use Rattle.promises.specs.Demand2.AtStart.{settingsOf}
+use Rattle.promises.specs.History
+use Rattle.promises.specs.History.{Settings, Conversion}
+use Rattle.promises.specs.History.Laws.{history-le}
+use Rattle.promises.specs.Runs.{State, Event, after, run, Reached, Always}
+pub mod Wait
+pub mod AtStart
+pub mod Counts
+pub mod Holds
+pub mod Ticks
+pub mod Pad
+pub mod Blank
+pub mod Events
+pub mod Deeds
+pub mod Course
+pub mod Dumped
+pub mod Listing
+
+-- "Held: the last min(n, places)"
+abbrev pub heldOf : Settings → List Conversion → ℕ
+heldOf s entries = min (length entries) (History.places s)
+
+-- the number of the oldest entry held, and of entry i of the listing
+abbrev pub numberOf : Settings → List Conversion → ℕ → ℕ
+numberOf s entries i = length entries - heldOf s entries + i
+
+-- what the dock answers to a dump when these places are lent
+pub record Lists (s : Settings) (entries : List Conversion) (code : ℕ) (dump : List ℕ) (lent : List ℤ) : Type 0 where
+  -- accepted, with the code, the number held and the stamp
+  pub listing : heldOf s entries ≤ length lent
+      → listingOf dump (length lent)
+      ≡ record {
+        answer = Accepted;
+        code = code;
+        held = heldOf s entries;
+        first = length entries - heldOf s entries;
+        stamp = sixBytes (History.stamp s entries);
+        rate = s .rate;
+        ehss = s .ehss;
+        suta = s .suta;
+      }
+  -- "Seconds from the stamp: period × k, with SUTA period × (k − 1)"
+  pub seconds : heldOf s entries ≤ length lent → (i : ℕ)
+      → secondsAt (listingOf dump (length lent)) i ≡ secondsOf (History.period s) (s .suta) (numberOf s entries i)
+  -- "Temperature .. reading − 656 (L), reading − 16 (T)", of the reading as the format keeps it, oldest first
+  pub temperatures : heldOf s entries ≤ length lent → (i : ℕ) → i < heldOf s entries
+      → getD (temperaturesOf dump lent) i (pos 0) ≡ temperatureOf code (History.kept s (getD entries (numberOf s entries i) none .reading))
+  -- "Places past the entries stay as they were"
+  pub past : heldOf s entries ≤ length lent → (i : ℕ) → heldOf s entries ≤ i
+      → getD (temperaturesOf dump lent) i (pos 0) ≡ getD lent i (pos 0)
+  -- 12: "fewer places lent for temperatures than entries held"
+  pub few : length lent < heldOf s entries → (listingOf dump (length lent) ≡ refused Places) × (temperaturesOf dump lent ≡ lent)
+
+-- an image that holds a mission's entries is listed so
+lists : {start image : List ℕ} {es : List Conversion} → Listed start es image → (code : ℕ) → length es ≤ History.most (settingsOf start)
+    → goodCode code ≡ true → (Registers.rate start ≡ 0 → ⊥) → Registers.etl start ≡ true → (lent : List ℤ)
+    → Lists (settingsOf start) es code (dumpOf image code) lent
+unfolding settingsOf History.places Mission.places secondsAt periodOf History.period
+lists p code most good rated logging lent =
+    record {
+      listing = listing-read p code most good rated logging lent;
+      seconds = λ enough i. ap (λ l. secondsAt l i) (listing-read p code most good rated logging lent enough);
+      temperatures = temperature-read p code most good rated logging lent;
+      past = past-read p code most good rated logging lent;
+      few = few-read p code most good rated logging lent;
+    }
+
+-- e is the slot in which Start was done; then come these events; and at their end the dump is taken
+pub demand2 : {s : State} (e : Event) (events : List Event) (lent : List ℤ) → Reached s → Starts s e → Always Spares (after s e) events
+    → let start = after s e in
+    let end = run start events .state in
+    Lists (settingsOf (start .image)) (History.history (settingsOf (start .image)) (missionTicks start events)) (end .tag .code)
+    (dumpOf (end .image) (end .tag .code)) lent
+demand2 {s} e events lent reached starts always =
+    let start = after s e in
+    let began = starts-after e (reached-solid reached) starts in
+    let sound = solid-run events (began .solid) always .sound in
+    lists (listed-run {readings = []} events (began .solid) (began .holds) always) (run start events .state .tag .code)
+    (history-le (settingsOf (start .image)) (missionTicks start events))
+    (ranges-of (run start events .state .tag) (sound .ranges) .code)
+    (began .holds .running .rated)
+    (began .etl)
+    lent

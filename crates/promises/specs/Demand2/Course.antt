@@ -1,0 +1,338 @@
+-- A mission from its Start on, over any events that spare its registers: what its image holds at the end is its history.
+-- Assumes nothing.
+use mathlib.Core.Path.{_≡_, refl, sym, ap, _∙_}
+use mathlib.Core.Bool.{Bool, true, false, not, _&&_, and-eq-true-iff, false≢true}
+use mathlib.Core.List.{List, [], _∷_, _++_, append-nil}
+use mathlib.Core.Logic.{_⊎_, dite}
+use Prim.Native.Nat.{ℕ, _*_, _≤_, _<_}
+use native.Mathlib.Nat.{zero-mod, zero-sub, not-suc-le-zero}
+use native.Mathlib.Decide.{decLt}
+use native.Mathlib.Omega.{arith}
+use borrow.Author.Tests.{eqb-false, not-true}
+use lib.Dec.{eqb}
+use lib.ListN.{take, replicate}
+use lib.Seq.{take-nil, drop-nil, append-snoc}
+use Rattle.answer.specs.Answer.{answerNumber}
+use Rattle.answer.specs.declared.Answer.{Answer}
+use Rattle.bits.specs.Bits.{digit}
+use Rattle.bits.specs.Choose.{if_then_else_}
+use Rattle.calendar.specs.Calendar.{clockAfter}
+use Rattle.exchange.specs.Exchange as exchange
+use Rattle.image.specs.Fields.Laws.{bytes-set, byte-blank}
+use Rattle.image.specs.Registers
+use Rattle.memory.specs.declared.Deed.{Deed}
+use Rattle.mission.specs.Clock.Laws.{stamp-kept}
+use Rattle.mission.specs.Leaves.{word-left}
+use Rattle.mission.specs.Mission
+use Rattle.mission.specs.Mission.Commands.{starts}
+use Rattle.mission.specs.Mission.Frames.{leaves-started}
+use Rattle.mission.specs.Mission.Settings.{settings-same, settings-started}
+use Rattle.mission.specs.Mission.Whole.{Whole, whole-ticked, whole-cleared, whole-started, whole-stopped, whole-forced}
+use Rattle.mission.specs.declared.Counters.{Counters}
+use Rattle.tag.specs.Tag.{performed, performedCounters, newImage, slotted, resetTag, tickTag}
+use Rattle.tag.specs.Tag.Laws.{new-good, new-made, length-new}
+use Rattle.promises.specs.Demand2.Blank.{Clean, clean-cleared, clean-stopped, clean-forced, clean-ticked, clean-started, clean-stored, clean-new}
+use Rattle.promises.specs.Demand2.Deeds.{whole-stored, holds-performed, Stopped, stopped-stop, stopped-ticked, stopped-performed}
+use Rattle.promises.specs.Demand2.Events.{slotAt, deedAt, Starts, Spares, isStop, missionTicks}
+use Rattle.promises.specs.Demand2.Holds.{Listed, Holds}
+use Rattle.promises.specs.Demand2.Pad.{PaddedIn, exchange-padded, reset-padded, new-padded}
+use Rattle.promises.specs.Demand2.AtStart.{settingsOf}
+use Rattle.promises.specs.Demand2.Ticks.{holds-ticked}
+use Rattle.promises.specs.Demand2.Wait.{waitOf, waitAt}
+use Rattle.promises.specs.History
+use Rattle.promises.specs.History.{Settings, Conversion}
+use Rattle.promises.specs.Runs.{State, Event, after, Accepts, run, Reached, Always}
+use Rattle.promises.specs.Runs.Laws.{Sound, sound-after, reached-sound, slot-happens, reset-happens, tick-happens, tick-refused, Valid}
+
+-- ---- what every reached state has
+
+pub record Solid (s : State) : Type 0 where
+  pub sound : Sound s
+  pub whole : Whole (s .image)
+  pub padded : PaddedIn (s .tag .exchange)
+  pub clean : Clean (s .image)
+
+-- ---- what each event leaves
+
+module _ {s : State} (solid : Solid s) where
+  pub tick-image : (reading : ℕ) → reading ≤ 2047 → after s (Event.tick reading) .image ≡ Mission.ticked (s .image) (s .tag .counters) reading
+  unfolding after tickTag
+  tick-image reading small = rw (tick-happens (solid .sound) reading small)
+
+  pub tick-counters : (reading : ℕ) → reading ≤ 2047
+      → after s (Event.tick reading) .tag .counters ≡ Mission.tickedCounters (s .image) (s .tag .counters) reading
+  unfolding after tickTag
+  tick-counters reading small = rw (tick-happens (solid .sound) reading small)
+
+  tick-exchange : (reading : ℕ) → reading ≤ 2047 → after s (Event.tick reading) .tag .exchange ≡ s .tag .exchange
+  unfolding after tickTag
+  tick-exchange reading small = rw (tick-happens (solid .sound) reading small)
+
+  pub reset-image : after s Event.reset .image ≡ s .image
+  unfolding after resetTag
+  reset-image = rw (reset-happens (solid .sound))
+
+  pub reset-counters : after s Event.reset .tag .counters ≡ s .tag .counters
+  unfolding after resetTag
+  reset-counters = rw (reset-happens (solid .sound))
+
+  reset-exchange : after s Event.reset .tag .exchange ≡ exchange.afterReset (s .tag .exchange)
+  unfolding after resetTag
+  reset-exchange = rw (reset-happens (solid .sound))
+
+  pub slot-image : (bit : Bool)
+      → after s (Event.slot bit) .image ≡ performed (slotAt s bit .deed) (slotAt s bit .exchange) (s .tag .counters) (s .image)
+  unfolding after slotted slotAt
+  slot-image bit = rw (slot-happens (solid .sound) bit)
+
+  pub slot-counters : (bit : Bool)
+      → after s (Event.slot bit) .tag .counters ≡ performedCounters (slotAt s bit .deed) (s .tag .counters) (s .image)
+  unfolding after slotted slotAt
+  slot-counters bit = rw (slot-happens (solid .sound) bit)
+
+  pub slot-exchange : (bit : Bool) → after s (Event.slot bit) .tag .exchange ≡ slotAt s bit .exchange
+  unfolding after slotted slotAt
+  slot-exchange bit = rw (slot-happens (solid .sound) bit)
+
+-- ---- every event keeps a solid state
+
+performed-whole : (deed : Deed) {s : State} → Solid s → (bit : Bool)
+    → Whole (performed deed (slotAt s bit .exchange) (s .tag .counters) (s .image))
+    × Clean (performed deed (slotAt s bit .exchange) (s .tag .counters) (s .image))
+unfolding performed slotAt
+performed-whole Deed.Nothing solid bit = (solid .whole, solid .clean)
+performed-whole Deed.Store {s} solid bit =
+    let x = slotAt s bit .exchange in
+    let p = exchange-padded (s .tag .exchange) bit _ (solid .padded) in
+    (whole-stored (x .held .pad) (x .held .ta) (p .size) (p .bytes) (solid .whole), clean-stored (solid .whole) (x .held .pad) (x .held .ta) (p .size) (solid .clean))
+performed-whole Deed.Clear solid bit = (whole-cleared (solid .whole), clean-cleared (solid .whole) (solid .clean))
+performed-whole Deed.Start solid bit = (whole-started (solid .whole), clean-started (solid .whole) (solid .clean))
+performed-whole Deed.Stop solid bit = (whole-stopped (solid .whole), clean-stopped (solid .whole) (solid .clean))
+performed-whole Deed.Convert {s} solid bit = (whole-forced (s .tag .counters) (solid .whole), clean-forced (s .tag .counters) (solid .clean))
+
+slot-padded : {s : State} → Solid s → (bit : Bool) → PaddedIn (slotAt s bit .exchange)
+unfolding slotAt
+slot-padded {s} solid bit = exchange-padded (s .tag .exchange) bit _ (solid .padded)
+
+pub solid-after : {s : State} → Solid s → (e : Event) → Valid e → Solid (after s e)
+solid-after {s} solid (Event.slot bit) valid =
+    let both = performed-whole (slotAt s bit .deed) solid bit in
+    record {
+      sound = sound-after (Event.slot bit) (solid .sound);
+      whole = rw (slot-image solid bit) (both .0);
+      padded = rw (slot-exchange solid bit) (slot-padded solid bit);
+      clean = rw (slot-image solid bit) (both .1);
+    }
+solid-after {s} solid Event.reset valid =
+    record {
+      sound = sound-after Event.reset (solid .sound);
+      whole = rw (reset-image solid) (solid .whole);
+      padded = rw (reset-exchange solid) (reset-padded (s .tag .exchange) (solid .padded));
+      clean = rw (reset-image solid) (solid .clean);
+    }
+solid-after {s} solid (Event.tick reading) valid =
+    record {
+      sound = sound-after (Event.tick reading) (solid .sound);
+      whole = rw (tick-image solid reading valid) (whole-ticked (s .tag .counters) reading (solid .whole));
+      padded = rw (tick-exchange solid reading valid) (solid .padded);
+      clean = rw (tick-image solid reading valid) (clean-ticked (s .tag .counters) reading (solid .clean));
+    }
+
+-- ---- Start
+
+nothing-yet : (s : Settings) → History.history s [] ≡ []
+unfolding History.history History.toLog History.conversionsFrom History.fromAlarm
+nothing-yet s = by-suta (s .suta)
+  where
+    by-suta : (b : Bool) → take (History.most s) (if_then_else_ {A = List Conversion} b [] []) ≡ []
+    by-suta true = take-nil (History.most s)
+    by-suta false = take-nil (History.most s)
+
+no-stamp : (s : Settings) → History.stamp s [] ≡ History.zeros
+unfolding History.stamp History.clockAt
+no-stamp s = rw (drop-nil {A = Conversion} (digit (s .suta)))
+
+-- what Start asks of the image
+record May (image : List ℕ) : Type 0 where
+  pub memclr : Registers.memclr image ≡ true
+  pub etl : Registers.etl image ≡ true
+  pub rated : Registers.rate image ≡ 0 → ⊥
+
+may-start : (image : List ℕ) → Mission.mayStart image ≡ true → May image
+unfolding Mission.mayStart
+may-start image e =
+    let three = and-eq-true-iff (Registers.memclr image && not (Registers.mip image) && Registers.etl image) (not (eqb (Registers.rate image) 0)) .0 e in
+    let two = and-eq-true-iff (Registers.memclr image && not (Registers.mip image)) (Registers.etl image) .0 (three .0) in
+    let one = and-eq-true-iff (Registers.memclr image) (not (Registers.mip image)) .0 (two .0) in
+    record { memclr = one .0; etl = two .1; rated = eqb-false (Registers.rate image) 0 (not-true (eqb (Registers.rate image) 0) (three .1)) }
+
+pub holds-started : {image : List ℕ} → Whole image → Clean image → Mission.mayStart image ≡ true → (c : Counters)
+    → Holds (Mission.started image) [] (Mission.started image) (Mission.startedCounters image c)
+unfolding Mission.startedCounters Mission.waiting waitOf waitAt clockAfter
+holds-started {image} w b m c =
+    let may = may-start image m in
+    let before = b (may .memclr) in
+    let l = leaves-started image in
+    let same = settings-started image in
+    let began = starts w m in
+    rw m
+    (record {
+      listed = rw (nothing-yet (settingsOf (Mission.started image)))
+          (record {
+            whole = whole-started w;
+            memclr = began .memclr;
+            settings = settings-same;
+            samples = word-left 0x0220 3 l tt ∙ before .samples ∙ sym (zero-sub (digit (Registers.suta (Mission.started image))));
+            flags = λ s. rw (l .bits 0x0214 1 tt tt tt ∙ before .thf, l .bits 0x0214 0 tt tt tt ∙ before .tlf);
+            stamp = stamp-kept (l .keeps) tt ∙ before .stamp ∙ sym (no-stamp (settingsOf (Mission.started image)));
+            entries = λ k lt ge. absurd (not-suc-le-zero lt);
+          });
+      running = rw (nothing-yet (settingsOf (Mission.started image)))
+          (record {
+            mip = began .mip;
+            eosc = began .eosc;
+            rated = λ e. may .rated (sym (same .rate) ∙ e);
+            clock = refl;
+            delay = omega arith;
+            minute = λ h. omega arith;
+            wait = rw (zero-sub (60 * Registers.delay (Mission.started image)), zero-mod (Mission.period (Mission.started image)));
+            waiting = rw (began .wfta, same .suta) (twice (Registers.suta image));
+          });
+    })
+  where
+    twice : (b : Bool) → (b && b) ≡ (b && true)
+    twice true = refl
+    twice false = refl
+
+pub etl-started : (image : List ℕ) → Mission.mayStart image ≡ true → Registers.etl (Mission.started image) ≡ true
+etl-started image m = settings-started image .etl ∙ may-start image m .etl
+
+-- the state that such a slot gives
+pub record Started (s : State) : Type 0 where
+  pub solid : Solid s
+  pub holds : Holds (s .image) [] (s .image) (s .tag .counters)
+  pub etl : Registers.etl (s .image) ≡ true
+
+pub starts-after : {s : State} (e : Event) → Solid s → Starts s e → Started (after s e)
+unfolding deedAt performed performedCounters
+starts-after {s} (Event.slot bit) solid starts =
+    record {
+      solid = solid-after solid (Event.slot bit) tt;
+      holds = rw (slot-image solid bit, slot-counters solid bit, starts .command)
+          (holds-started (solid .whole) (solid .clean) (starts .may) (s .tag .counters));
+      etl = rw (slot-image solid bit, starts .command) (etl-started (s .image) (starts .may));
+    }
+starts-after Event.reset solid starts = let command = starts .command in absurd (let no : _≡_ {A = ℕ} 0 1 = cc in omega arith)
+starts-after (Event.tick reading) solid starts = let command = starts .command in absurd (let no : _≡_ {A = ℕ} 0 1 = cc in omega arith)
+
+-- ---- the events after it
+
+-- what a slot asks of its premise
+slot-stores : {s : State} → Solid s → (bit : Bool) → Spares s (Event.slot bit)
+    → slotAt s bit .deed ≡ Deed.Store → (slotAt s bit .exchange .held .ta < 0x0200) ⊎ (0x0240 ≤ slotAt s bit .exchange .held .ta)
+unfolding deedAt
+slot-stores solid bit spares e = rw (slot-exchange solid bit) at (spares .store e)
+
+slot-clears : {s : State} (bit : Bool) → Spares s (Event.slot bit) → slotAt s bit .deed ≡ Deed.Clear → Registers.mip (s .image) ≡ true
+unfolding deedAt
+slot-clears bit spares = spares .clear
+
+stopped-after : {start : List ℕ} {es : List Conversion} {s : State} → Solid s → (e : Event) → Spares s e → Stopped start es (s .image)
+    → Stopped start es (after s e .image)
+stopped-after {s = s} solid (Event.slot bit) spares h =
+    rw (slot-image solid bit)
+    (stopped-performed (s .tag .counters) (slotAt s bit .exchange) (slot-padded solid bit) (slotAt s bit .deed) (slot-stores solid bit spares) (slot-clears bit spares) h)
+stopped-after solid Event.reset spares h = rw (reset-image solid) h
+stopped-after {s = s} solid (Event.tick reading) spares h =
+    rw (tick-image solid reading (spares .valid)) (stopped-ticked (s .tag .counters) reading h)
+
+-- after a Stop what a listing goes by stays
+stopped-run : {start : List ℕ} {es : List Conversion} {s : State} (events : List Event) → Solid s → Stopped start es (s .image)
+    → Always Spares s events → Listed start es (run s events .state .image)
+unfolding run Always
+stopped-run [] solid h always = h .listed
+stopped-run (e ∷ events) solid h always =
+    stopped-run events (solid-after solid e (always .0 .valid)) (stopped-after solid e (always .0) h) (always .1)
+
+stop-deed : (deed : Deed) → isStop deed ≡ true → deed ≡ Deed.Stop
+unfolding isStop
+stop-deed Deed.Stop e = refl
+stop-deed Deed.Nothing e = absurd (false≢true e)
+stop-deed Deed.Store e = absurd (false≢true e)
+stop-deed Deed.Clear e = absurd (false≢true e)
+stop-deed Deed.Start e = absurd (false≢true e)
+stop-deed Deed.Convert e = absurd (false≢true e)
+
+-- a Stop ends the mission with what it has logged
+stop-after : {start readings : List ℕ} {s : State} → Solid s → (bit : Bool) → isStop (slotAt s bit .deed) ≡ true
+    → Holds start readings (s .image) (s .tag .counters)
+    → Stopped start (History.history (settingsOf start) readings) (after s (Event.slot bit) .image)
+unfolding performed
+stop-after {s = s} solid bit e h = rw (slot-image solid bit, stop-deed (slotAt s bit .deed) e) (stopped-stop (h .listed))
+
+pub solid-run : {s : State} (events : List Event) → Solid s → Always Spares s events → Solid (run s events .state)
+unfolding run Always
+solid-run [] solid always = solid
+solid-run (e ∷ events) solid always = solid-run events (solid-after solid e (always .0 .valid)) (always .1)
+
+-- over any events that spare the mission, its image holds the history of its ticks
+pub listed-run : {start readings : List ℕ} {s : State} (events : List Event) → Solid s → Holds start readings (s .image) (s .tag .counters)
+    → Always Spares s events
+    → Listed start (History.history (settingsOf start) (readings ++ missionTicks s events)) (run s events .state .image)
+unfolding run Always missionTicks deedAt
+listed-run {readings = readings} [] solid h always = rw (append-nil readings) (h .listed)
+listed-run {readings = readings} {s = s} (Event.tick reading ∷ events) solid h always =
+    let small = always .0 .valid in
+    rw (← append-snoc readings reading (missionTicks (after s (Event.tick reading)) events))
+    (listed-run {readings = readings ++ reading ∷ []} events (solid-after solid (Event.tick reading) small)
+    (rw (tick-image solid reading small, tick-counters solid reading small) (holds-ticked h reading small))
+    (always .1))
+listed-run {readings = readings} (Event.reset ∷ events) solid h always =
+    listed-run {readings = readings} events (solid-after solid Event.reset tt) (rw (reset-image solid, reset-counters solid) h) (always .1)
+listed-run {start} {readings} {s} (Event.slot bit ∷ events) solid h always =
+    by-deed (isStop (slotAt s bit .deed)) refl
+    (λ going. listed-run {readings = readings} events (solid-after solid (Event.slot bit) tt)
+    (rw (slot-image solid bit, slot-counters solid bit)
+    (holds-performed (slotAt s bit .exchange) (slot-padded solid bit) (slotAt s bit .deed) going (slot-stores solid bit (always .0)) h))
+    (always .1))
+  where
+    by-deed : (t : Bool) → isStop (slotAt s bit .deed) ≡ t
+        → (isStop (slotAt s bit .deed) ≡ false
+        → Listed start (History.history (settingsOf start) (readings ++ missionTicks (after s (Event.slot bit)) events)) (run (after s (Event.slot bit)) events .state .image))
+        → Listed start
+        (History.history (settingsOf start) (readings ++ (if t then [] else missionTicks (after s (Event.slot bit)) events)))
+        (run (after s (Event.slot bit)) events .state .image)
+    by-deed true e on =
+        rw (append-nil readings)
+        (stopped-run events (solid-after solid (Event.slot bit) tt) (stop-after solid bit e h) (always .1))
+    by-deed false e on = on e
+
+-- ---- reached states are solid
+
+whole-new : Whole (newImage 8832)
+unfolding newImage
+whole-new =
+    record { size = length-new 8832; bytes = bytes-set (replicate 8832 0) 0x0214 0x80 (λ k. rw (byte-blank 8832 k) (omega arith)) (omega arith) }
+
+accepted-valid : {s : State} → Sound s → (e : Event) → Accepts s e → Valid e
+accepted-valid sound (Event.slot bit) a = tt
+accepted-valid sound Event.reset a = tt
+accepted-valid {s} sound (Event.tick reading) a = dite (decLt 2047 reading) high (λ low. omega arith)
+  where
+    high : 2047 < reading → reading ≤ 2047
+    high h =
+        let two : answerNumber Answer.Reading ≡ answerNumber Answer.Accepted = ap answerNumber (rw (tick-refused sound reading h) at a) in
+        absurd (apart two)
+      where
+        apart : answerNumber Answer.Reading ≡ answerNumber Answer.Accepted → ⊥
+        apart e = omega arith
+
+pub reached-solid : {s : State} → Reached s → Solid s
+reached-solid (Reached.new image number code e) =
+    let good = new-good image number code e in
+    let made = new-made image number code (good .0) (good .1) (good .2) in
+    let sound = reached-sound (Reached.new image number code e) in
+    rw made
+    (record { sound = rw made at sound; whole = whole-new; padded = new-padded number; clean = clean-new })
+reached-solid (Reached.event e before accepted) =
+    solid-after (reached-solid before) e (accepted-valid (reached-sound before) e accepted)

@@ -1,0 +1,334 @@
+-- A tick of a running mission is one more tick of its history. Assumes nothing.
+use mathlib.Core.Path.{_≡_, refl, sym, _∙_}
+use mathlib.Core.Bool.{Bool, true, false, not, _&&_, false≢true}
+use mathlib.Core.List.{List, [], _∷_, _++_, append-nil}
+use mathlib.Core.Logic.{dite}
+use Prim.Native.Nat.{ℕ, _+_, _-_, _*_, _/_, _%_, _≤_, _<_}
+use native.Mathlib.Decide.{ℕ-discrete}
+use native.Mathlib.Nat.{mod-lt}
+use native.Mathlib.Numerals.{add-one}
+use native.Mathlib.Omega.{arith}
+use borrow.Author.Tests.{eq-eqb, ne-eqb, leb-true, leb-false, ltb-true, ltb-false, lt-ltb}
+use lib.Dec.{eqb, leb, ltb}
+use lib.ListN.{length, getD, length-append, List·getD-append}
+use lib.Seq.{getD-append-seam}
+use Rattle.bits.specs.Choose.{if_then_else_}
+use Rattle.calendar.specs.Calendar.{nextSecond, clockAfter}
+use Rattle.image.specs.Registers
+use Rattle.mission.specs.Clock.{clockOf}
+use Rattle.mission.specs.Clock.Laws.{clock-kept}
+use Rattle.mission.specs.Leaves.{Leaves, leaves-same, leaves-then, leaves-choice, leaves-wider, leaves-putWord}
+use Rattle.mission.specs.Mission
+use Rattle.mission.specs.Mission.Converts.{Converts, waiting-same}
+use Rattle.mission.specs.Mission.Converts as Conversions
+use Rattle.mission.specs.Mission.Frames.{leaves-clocked, leaves-missionTicked, leaves-ticked}
+use Rattle.mission.specs.Mission.Laws.{period-pos}
+use Rattle.mission.specs.Mission.Settings.{settings-left, settings-then, period-same, places-same, resolved-same, alarms-same}
+use Rattle.mission.specs.Mission.Ticks.{clock-clocked, counters-ticked, ticked-delaying, ticked-between, ticked-ended, delay-ticked, converts-ticked}
+use Rattle.mission.specs.Mission.Whole.{whole-ticked}
+use Rattle.mission.specs.declared.Counters.{Counters}
+use Rattle.promises.specs.Demand2.Counts.{next-count, count-more, first-count, end-count, flags-more, flags-same, unlogged-waits, unlogged-quiet, waits-no-more, waits-on}
+use Rattle.promises.specs.Demand2.Holds.{none, Listed, Running, Holds, listed-left}
+use Rattle.promises.specs.Demand2.AtStart.{settingsOf, period-of, places-of, alarms-of, kept-of, places-pos, places-le, place-apart}
+use Rattle.promises.specs.Demand2.Wait.{waitOf, wait-zero, wait-next}
+use Rattle.promises.specs.History
+use Rattle.promises.specs.History.{Conversion}
+use Rattle.promises.specs.History.Laws.{isNone, logs, adds, added, history-more, history-le, stamp-more, time-before, time-after, none-length, none-more}
+
+module _ {start image : List ℕ} {es : List Conversion} {t : ℕ} {c : Counters} (p : Listed start es image) (q : Running start es t image c) where
+  -- ---- where the mission stands
+
+  delaying-of : Mission.delaying image ≡ ltb t (60 * Registers.delay start)
+  unfolding Mission.delaying
+  delaying-of = rw (q .mip, q .delay) (by-test (ltb t (60 * Registers.delay start)) refl)
+    where
+      by-test : (b : Bool) → ltb t (60 * Registers.delay start) ≡ b → not (eqb (Registers.delay start - t / 60) 0) ≡ b
+      by-test true e = rw (ne-eqb (Registers.delay start - t / 60) 0 (omega (arith, ltb-true t (60 * Registers.delay start) e)))
+      by-test false e = rw (eq-eqb (Registers.delay start - t / 60) 0 (omega (arith, ltb-false t (60 * Registers.delay start) e)))
+
+  converting-not : t < 60 * Registers.delay start → Mission.converting image ≡ false
+  unfolding Mission.converting
+  converting-not h = rw (q .mip, q .delay, ne-eqb (Registers.delay start - t / 60) 0 (omega arith))
+
+  converting-now : 60 * Registers.delay start ≤ t → Mission.converting image ≡ true
+  unfolding Mission.converting
+  converting-now h =
+      rw (q .mip, q .delay, eq-eqb (Registers.delay start - t / 60) 0 (omega arith), p .settings .rate, ne-eqb (Registers.rate start) 0 (q .rated))
+
+  period-now : 0 < Mission.period start
+  period-now = period-pos start (q .rated)
+
+  due-of : Mission.due image c ≡ History.isTime (settingsOf start) (t + 1)
+  unfolding Mission.due settingsOf
+  due-of = by-test (ltb t (60 * Registers.delay start)) refl
+    where
+      by-test : (b : Bool) → ltb t (60 * Registers.delay start) ≡ b
+          → (Mission.converting image && eqb (c .wait) 0) ≡ History.isTime (settingsOf start) (t + 1)
+      by-test true e =
+          let h = ltb-true t (60 * Registers.delay start) e in
+          rw (converting-not h, time-before (settingsOf start) t h)
+      by-test false e =
+          let h = ltb-false t (60 * Registers.delay start) e in
+          rw (
+            converting-now h,
+            q .wait,
+            wait-zero (Mission.period start) (t - 60 * Registers.delay start) period-now,
+            time-after (settingsOf start) t h,
+            period-of start,
+          )
+
+  nextEntry-of : Mission.nextEntry image ≡ length es
+  unfolding Mission.nextEntry
+  nextEntry-of =
+      rw (q .waiting, p .settings .suta)
+      (next-count (Registers.suta start) (isNone es) (length es) (Registers.missionSamples image) (sym (none-length es)) (p .samples))
+
+  ended-of : length es ≤ History.most (settingsOf start) → Mission.ended image ≡ leb (History.most (settingsOf start)) (length es)
+  unfolding Mission.ended History.most settingsOf
+  ended-of le =
+      rw (nextEntry-of, places-same (p .settings), p .settings .ro, places-of start)
+      (end-count (Registers.ro start) (Registers.suta start) (Mission.places start) (length es) (Registers.missionSamples image) (places-le start) (p .samples) (rw (places-of start) at le))
+
+  -- ---- the counters, the delay and the clock
+
+  next-minute : t + 1 < 60 * Registers.delay start → Mission.nextMinute image c ≡ (t + 1) % 60
+  unfolding Mission.nextMinute Mission.minuteOver
+  next-minute h =
+      rw (delaying-of, lt-ltb t (60 * Registers.delay start) (omega arith), q .minute (omega arith)) (by-test (leb 59 (t % 60)) refl)
+    where
+      by-test : (b : Bool) → leb 59 (t % 60) ≡ b → (if b then 0 else t % 60 + 1) ≡ (t + 1) % 60
+      by-test true e = omega (arith, leb-true 59 (t % 60) e)
+      by-test false e = omega (arith, leb-false 59 (t % 60) e)
+
+  next-wait : Mission.nextWait image c ≡ waitOf (Mission.period start) (t + 1 - 60 * Registers.delay start)
+  unfolding Mission.nextWait
+  next-wait = by-test (ltb t (60 * Registers.delay start)) refl
+    where
+      by-test : (b : Bool) → ltb t (60 * Registers.delay start) ≡ b
+          → (if Mission.converting image then (if eqb (c .wait) 0 then Mission.period image - 1 else c .wait - 1) else c .wait)
+          ≡ waitOf (Mission.period start) (t + 1 - 60 * Registers.delay start)
+      by-test true e =
+          let h = ltb-true t (60 * Registers.delay start) e in
+          let none : t + 1 - 60 * Registers.delay start ≡ t - 60 * Registers.delay start = omega arith in
+          rw (converting-not h, none) (q .wait)
+      by-test false e =
+          let h = ltb-false t (60 * Registers.delay start) e in
+          let more : t + 1 - 60 * Registers.delay start ≡ t - 60 * Registers.delay start + 1 = omega arith in
+          rw (converting-now h, q .wait, period-same (p .settings), more)
+          (sym (wait-next (Mission.period start) (t - 60 * Registers.delay start) period-now))
+
+  module _ (reading : ℕ) where
+    next-delay : Registers.delay (Mission.ticked image c reading) ≡ Registers.delay start - (t + 1) / 60
+    unfolding Mission.minuteOver
+    next-delay = delay-ticked image c reading (p .whole) ∙ rw delaying-of (by-test (ltb t (60 * Registers.delay start)) refl)
+      where
+        minute-over : (b : Bool) → leb 59 (c .minute) ≡ b → t < 60 * Registers.delay start
+            → (if b then Registers.delay image - 1 else Registers.delay image) ≡ Registers.delay start - (t + 1) / 60
+        minute-over true e h = omega (arith, q .delay, q .minute h, leb-true 59 (c .minute) e)
+        minute-over false e h = omega (arith, q .delay, q .minute h, leb-false 59 (c .minute) e)
+
+        by-test : (b : Bool) → ltb t (60 * Registers.delay start) ≡ b
+            → (if b && leb 59 (c .minute) then Registers.delay image - 1 else Registers.delay image) ≡ Registers.delay start - (t + 1) / 60
+        by-test true e = minute-over (leb 59 (c .minute)) refl (ltb-true t (60 * Registers.delay start) e)
+        by-test false e = omega (arith, q .delay, ltb-false t (60 * Registers.delay start) e)
+
+    second-later : (if Registers.eosc image then nextSecond (clockOf image) else clockOf image) ≡ clockAfter (t + 1) (clockOf start)
+    unfolding clockAfter
+    second-later = rw (q .eosc, q .clock, add-one t)
+
+    next-clock : clockOf (Mission.ticked image c reading) ≡ clockAfter (t + 1) (clockOf start)
+    unfolding Mission.ticked
+    next-clock =
+        clock-kept (leaves-missionTicked (Mission.clocked image) c reading .keeps) tt
+        ∙ clock-clocked image (omega (arith, p .whole .size))
+        ∙ second-later
+
+    running-ticked : {after : List Conversion}
+        → Mission.waiting (Mission.ticked image c reading) ≡ Registers.suta start && isNone after
+        → Running start after (t + 1) (Mission.ticked image c reading) (Mission.tickedCounters image c reading)
+    running-ticked e =
+        let l = leaves-ticked image c reading in
+        rw (counters-ticked image c reading)
+        (record {
+          mip = l .bits 0x0215 1 tt tt tt ∙ q .mip;
+          eosc = l .bits 0x0212 0 tt tt tt ∙ q .eosc;
+          rated = q .rated;
+          clock = next-clock;
+          delay = next-delay;
+          minute = next-minute;
+          wait = next-wait;
+          waiting = e;
+        })
+
+    -- ---- a tick that makes no conversion
+
+    quiet : (Mission.due image c && not (Mission.ended image)) ≡ false
+        → Leaves ((0x0200, 6) ∷ (0x0216, 3) ∷ []) [] image (Mission.ticked image c reading)
+    quiet e = by-tests (Mission.delaying image) (Mission.due image c) (Mission.ended image) refl refl refl e
+      where
+        by-tests : (d u f : Bool) → Mission.delaying image ≡ d → Mission.due image c ≡ u → Mission.ended image ≡ f → (u && not f) ≡ false
+            → Leaves ((0x0200, 6) ∷ (0x0216, 3) ∷ []) [] image (Mission.ticked image c reading)
+        by-tests true u f x y z e =
+            rw (ticked-delaying image c reading x)
+            (leaves-then (leaves-wider tt (leaves-clocked image))
+            (leaves-choice (Mission.minuteOver c) (leaves-wider tt (leaves-putWord _ 0x0216 3 _)) leaves-same))
+        by-tests false false f x y z e = rw (ticked-between image c reading x y) (leaves-wider tt (leaves-clocked image))
+        by-tests false true true x y z e = rw (ticked-ended image c reading y z) (leaves-wider tt (leaves-clocked image))
+        by-tests false true false x y z e = absurd (false≢true (sym e))
+
+    listed-quiet : (Mission.due image c && not (Mission.ended image)) ≡ false → Listed start es (Mission.ticked image c reading)
+    listed-quiet e =
+        let l = quiet e in
+        listed-left l (settings-left l tt tt tt tt tt) (whole-ticked c reading (p .whole)) tt tt tt tt tt tt tt tt tt p
+
+    waiting-quiet : (Mission.due image c && not (Mission.ended image)) ≡ false
+        → Mission.waiting (Mission.ticked image c reading) ≡ Registers.suta start && isNone es
+    waiting-quiet e =
+        let l = quiet e in
+        waiting-same (settings-left l tt tt tt tt tt) (l .bits 0x0215 4 tt tt tt) ∙ q .waiting
+
+    -- ---- a conversion that is made
+
+    logs-of : Conversions.logs image reading ≡ logs (settingsOf start) es reading
+    unfolding Conversions.logs logs settingsOf
+    logs-of = rw (q .waiting, alarms-same (p .settings) reading, alarms-of start reading)
+
+    module _ (small : reading ≤ 2047) (due : Mission.due image c ≡ true) (going : Mission.ended image ≡ false) where
+      made : Converts image (if Registers.eosc image then nextSecond (clockOf image) else clockOf image) reading (Mission.ticked image c reading)
+      made = converts-ticked image c reading (p .whole) due going
+
+      kept-general : Registers.memclr (Mission.ticked image c reading) ≡ false
+      kept-general = leaves-ticked image c reading .bits 0x0215 3 tt tt tt ∙ p .memclr
+
+      place-lt : (k : ℕ) → k % Mission.places start < Mission.places image
+      place-lt k = rw (places-same (p .settings)) (mod-lt k (places-pos start))
+
+      -- one that goes on waiting is not logged
+      listed-unlogged : logs (settingsOf start) es reading ≡ false → Listed start es (Mission.ticked image c reading)
+      unfolding Conversions.logs Mission.alarms
+      listed-unlogged e =
+          let unlogged : Conversions.logs image reading ≡ false = logs-of ∙ e in
+          let waits = unlogged-waits (Mission.waiting image) (Mission.alarms image reading) unlogged in
+          let quiet = unlogged-quiet (Mission.waiting image) (Mission.alarms image reading) unlogged in
+          record {
+            whole = whole-ticked c reading (p .whole);
+            memclr = kept-general;
+            settings = settings-then (p .settings) (made .settings);
+            samples = made .log .missionSamples ∙ rw waits (p .samples);
+            flags = λ s. rw (made .thf, made .tlf)
+                (flags-same (Mission.alarmsHigh image reading) (Mission.alarmsLow image reading) (Registers.thf image) (Registers.tlf image) quiet ∙ p .flags s);
+            stamp = made .log .stamp ∙ rw waits (p .stamp);
+            entries = λ k lt ge. made .log .entries (k % Mission.places start) (place-lt k) ∙ rw unlogged (p .entries k lt ge);
+          }
+
+      -- every other is the next entry
+      abbrev next : Conversion
+      next = record { tick = t + 1; reading = reading }
+
+      module _ (e : logs (settingsOf start) es reading ≡ true) where
+        some : isNone (es ++ next ∷ []) ≡ false
+        some = none-more es next
+
+        entry-at : (k : ℕ) → k < length (es ++ next ∷ []) → length (es ++ next ∷ []) ≤ k + Mission.places start
+            → Mission.entryAt (Mission.ticked image c reading) (k % Mission.places start)
+            ≡ History.kept (settingsOf start) (getD (es ++ next ∷ []) k none .reading)
+        entry-at k lt ge =
+            made .log .entries (k % Mission.places start) (place-lt k)
+            ∙ rw (logs-of ∙ e, nextEntry-of, places-same (p .settings)) (dite (ℕ-discrete k (length es)) last earlier)
+          where
+            last : k ≡ length es
+                → (if eqb (k % Mission.places start) (length es % Mission.places start) then Mission.resolved image (reading % 2048)
+                else Mission.entryAt image (k % Mission.places start))
+                ≡ History.kept (settingsOf start) (getD (es ++ next ∷ []) k none .reading)
+            last same =
+                let whole : reading % 2048 ≡ reading = omega arith in
+                rw (
+                  same,
+                  eq-eqb (length es % Mission.places start) (length es % Mission.places start) refl,
+                  whole,
+                  resolved-same (p .settings) reading,
+                  getD-append-seam es next [] none,
+                  kept-of start reading,
+                )
+
+            earlier : (k ≡ length es → ⊥)
+                → (if eqb (k % Mission.places start) (length es % Mission.places start) then Mission.resolved image (reading % 2048)
+                else Mission.entryAt image (k % Mission.places start))
+                ≡ History.kept (settingsOf start) (getD (es ++ next ∷ []) k none .reading)
+            earlier other =
+                let n : length (es ++ next ∷ []) ≡ length es + 1 = length-append es (next ∷ []) in
+                let before : k < length es = omega arith in
+                rw (
+                  ne-eqb (k % Mission.places start) (length es % Mission.places start) (place-apart start k (length es) before (omega arith)),
+                  List·getD-append es (next ∷ []) none k before,
+                )
+                (p .entries k before (omega arith))
+
+        listed-logged : Listed start (es ++ next ∷ []) (Mission.ticked image c reading)
+        unfolding settingsOf Conversions.logs Mission.alarms
+        listed-logged =
+            record {
+              whole = whole-ticked c reading (p .whole);
+              memclr = kept-general;
+              settings = settings-then (p .settings) (made .settings);
+              samples = made .log .missionSamples
+                  ∙ rw (q .waiting, length-append es (next ∷ []))
+                  (count-more (Registers.suta start) (isNone es) (length es) (Registers.missionSamples image) (sym (none-length es)) (p .samples));
+              flags = λ s. rw (made .thf, made .tlf, some)
+                  (flags-more (Mission.alarmsHigh image reading) (Mission.alarmsLow image reading) (Registers.thf image) (Registers.tlf image) (isNone es)
+                  (p .flags s)
+                  (rw (q .waiting, s) at (logs-of ∙ e)));
+              stamp = made .log .stamp
+                  ∙ rw (q .waiting, second-later, p .stamp, stamp-more (settingsOf start) es next)
+                  (first-count (Registers.suta start) (isNone es) (length es) (Registers.missionSamples image) _ _ (sym (none-length es)) (p .samples));
+              entries = entry-at;
+            }
+
+        waiting-logged : Mission.waiting (Mission.ticked image c reading) ≡ Registers.suta start && isNone (es ++ next ∷ [])
+        unfolding Mission.waiting Conversions.logs
+        waiting-logged =
+            rw (made .log .wfta, made .settings .suta, some, ← p .settings .suta)
+            (waits-no-more (Registers.suta image) (Registers.wfta image) (Mission.alarms image reading) (logs-of ∙ e))
+
+      waiting-unlogged : logs (settingsOf start) es reading ≡ false
+          → Mission.waiting (Mission.ticked image c reading) ≡ Registers.suta start && isNone es
+      unfolding Mission.waiting Conversions.logs
+      waiting-unlogged e =
+          rw (made .log .wfta, made .settings .suta)
+          (waits-on (Registers.suta image) (Registers.wfta image) (Mission.alarms image reading) (logs-of ∙ e))
+          ∙ q .waiting
+
+    -- ---- one more tick
+
+    more : length es ≤ History.most (settingsOf start) → reading ≤ 2047
+        → Listed start (es ++ added (settingsOf start) es (t + 1) reading) (Mission.ticked image c reading)
+        × Running start (es ++ added (settingsOf start) es (t + 1) reading) (t + 1) (Mission.ticked image c reading) (Mission.tickedCounters image c reading)
+    unfolding adds
+    more le small =
+        by-tests (History.isTime (settingsOf start) (t + 1)) (leb (History.most (settingsOf start)) (length es)) (logs (settingsOf start) es reading) refl refl refl
+      where
+        unchanged : (Mission.due image c && not (Mission.ended image)) ≡ false
+            → Listed start (es ++ []) (Mission.ticked image c reading)
+            × Running start (es ++ []) (t + 1) (Mission.ticked image c reading) (Mission.tickedCounters image c reading)
+        unchanged e = rw (append-nil es) (listed-quiet e, running-ticked (waiting-quiet e))
+
+        by-tests : (a b l : Bool) → History.isTime (settingsOf start) (t + 1) ≡ a → leb (History.most (settingsOf start)) (length es) ≡ b → logs (settingsOf start) es reading ≡ l
+            → Listed start (es ++ (if a && (not b && l) then record { tick = t + 1; reading = reading } ∷ [] else [])) (Mission.ticked image c reading)
+            × Running start (es ++ (if a && (not b && l) then record { tick = t + 1; reading = reading } ∷ [] else [])) (t + 1) (Mission.ticked image c reading) (Mission.tickedCounters image c reading)
+        by-tests false b l x y z = unchanged (rw (due-of ∙ x))
+        by-tests true true l x y z = unchanged (rw (due-of ∙ x, ended-of le ∙ y))
+        by-tests true false true x y z =
+            (listed-logged small (due-of ∙ x) (ended-of le ∙ y) z, running-ticked (waiting-logged small (due-of ∙ x) (ended-of le ∙ y) z))
+        by-tests true false false x y z =
+            rw (append-nil es)
+            (listed-unlogged small (due-of ∙ x) (ended-of le ∙ y) z, running-ticked (waiting-unlogged small (due-of ∙ x) (ended-of le ∙ y) z))
+
+-- a tick with a reading keeps the mission to its history
+pub holds-ticked : {start image rs : List ℕ} {c : Counters} → Holds start rs image c → (reading : ℕ) → reading ≤ 2047
+    → Holds start (rs ++ reading ∷ []) (Mission.ticked image c reading) (Mission.tickedCounters image c reading)
+holds-ticked {start} {image} {rs} h reading small =
+    let after = more (h .listed) (h .running) reading (history-le (settingsOf start) rs) small in
+    record {
+      listed = rw (history-more (settingsOf start) rs reading) (after .0);
+      running = rw (history-more (settingsOf start) rs reading, length-append rs (reading ∷ [])) (after .1);
+    }
