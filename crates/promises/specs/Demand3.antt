@@ -22,6 +22,7 @@ pub mod Image
 pub mod Left
 pub mod Reset
 pub mod Proof
+pub mod Needed
 
 -- ---- three kinds of slot, read off the record and the master's bit
 

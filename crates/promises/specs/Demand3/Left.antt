@@ -101,7 +101,7 @@ module _ {image : List ℕ} {s : State} (g : Guards image s) (bit : Bool) (wrong
 -- ---- a reset and a tick
 
 -- what holds of a tick's outcome and of the state as it is holds of the state after the tick, valid or not
-tick-cases : {s : State} (sound : Sound s) (reading : ℕ) (P : State → Type 0) →
+pub tick-cases : {s : State} (sound : Sound s) (reading : ℕ) (P : State → Type 0) →
     P (record { image = tickTag (s .image) (s .tag) reading .image; tag = tickTag (s .image) (s .tag) reading .answered .tag }) → P s →
     P (after s (Event.tick reading))
 unfolding after

@@ -4,11 +4,15 @@ use mathlib.Core.Path.{_≡_, refl, ap, _∙_}
 use mathlib.Core.Bool.{Bool, true}
 use mathlib.Core.List.{List, [], _∷_, _++_}
 use mathlib.Core.Bool.{false}
+use mathlib.Core.Logic.{dite}
 use Prim.Native.Nat.{ℕ, _≤_, _<_}
+use native.Mathlib.Decide.{decLe}
+use native.Mathlib.Omega.{arith}
 use borrow.Author.Tests.{lt-ltb, le-ltb}
 use lib.ListN.{length}
 use Rattle.answer.specs.declared.Answer.{Answer}
 use Rattle.bits.specs.Bits.{digit}
+use Rattle.exchange.specs.Exchange.Laws.{number-kept}
 use Rattle.tag.specs.Tag.{tagInRange, refusal, newTag, slotted, resetTag, tickTag, eventOf}
 use Rattle.tag.specs.Tag.Laws.{new-good, new-made, length-new, new-in-range, length-step, step-in-range, step-taken}
 use Rattle.promises.specs.Runs.{State, Event, codeOf, readingOf, leaves, happens, after, lineBit, Accepts, Ran, run, Reached, Always, Together}
@@ -53,6 +57,11 @@ pub always-map : {P Q : State → Event → Type 0} → ((s : State) (e : Event)
 unfolding Always
 always-map f s [] always = tt
 always-map f s (e ∷ es) always = (f s e (always .0), always-map f (after s e) es (always .1))
+
+pub always-append : (P : State → Event → Type 0) (s : State) (es fs : List Event) → Always P s es → Always P (run s es .state) fs → Always P s (es ++ fs)
+unfolding Always run
+always-append P s [] fs first rest = rest
+always-append P s (e ∷ es) fs first rest = (first .0, always-append P (after s e) es fs (first .1) rest)
 
 -- two runs side by side have what each has, and what both have
 pub together-with : (P Q : State → Event → Type 0) (R S : State → Event → State → Event → Type 0) →
@@ -132,6 +141,20 @@ module _ {s : State} (sound : Sound s) where
   unfolding eventOf
   tick-refused reading high =
       step-taken (s .image) (s .tag) 3 reading (sound .size) (sound .ranges) ∙ rw (lt-ltb 2047 reading high)
+
+-- ---- no event changes the number
+
+pub number-after : {s : State} (e : Event) → Sound s → after s e .tag .exchange .number ≡ s .tag .exchange .number
+unfolding after slotted resetTag tickTag
+number-after {s} (Event.slot bit) sound = rw (slot-happens sound bit) (number-kept (s .tag .exchange) bit _)
+number-after Event.reset sound = rw (reset-happens sound)
+number-after (Event.tick reading) sound =
+    dite (decLe reading 2047) (λ small. rw (tick-happens sound reading small)) (λ high. rw (tick-refused sound reading (omega arith)))
+
+pub number-run : {s : State} (es : List Event) → Sound s → run s es .state .tag .exchange .number ≡ s .tag .exchange .number
+unfolding run
+number-run [] sound = refl
+number-run (e ∷ es) sound = number-run es (sound-after e sound) ∙ number-after e sound
 
 -- ---- which events are accepted
 
