@@ -71,7 +71,8 @@ NoPassword image = OnSlots (λ s bit. (field : ℕ) → EndsField (s .tag .excha
 abbrev pub AlarmsAgree : State → Event → State → Event → Type 0
 AlarmsAgree s e t f = OnSlots (λ u bit. Conditional (u .tag .exchange) bit → alarmed (s .image) ≡ alarmed (t .image)) s e
 
-pub record Premises (s t : State) (E F : List Event) : Type 0 where
+-- premises 1 to 3
+pub record Begins (s t : State) (E F : List Event) : Type 0 where
   pub reset-s : JustReset s
   pub reset-t : JustReset t
   -- 2. "with password checking on, the same registration number, and equal scratchpad, address registers and Resume mark"; `held` is
@@ -82,6 +83,9 @@ pub record Premises (s t : State) (E F : List Event) : Type 0 where
   pub held : s .tag .exchange .held ≡ t .tag .exchange .held
   pub mark : s .tag .exchange .select .mark ≡ t .tag .exchange .select .mark
   pub alike : Together (λ u e v f. Alike e f) s E t F
+
+pub record Premises (s t : State) (E F : List Event) : Type 0 where
+  pub begins : Begins s t E F
   -- any of "their four passwords", in either run
   pub fields-s : Always (λ u e. NoPassword (s .image) u e × NoPassword (t .image) u e) s E
   pub fields-t : Always (λ u e. NoPassword (s .image) u e × NoPassword (t .image) u e) t F

@@ -7,12 +7,12 @@ use mathlib.Core.Logic.{_≢_}
 use Prim.Native.Nat.{ℕ}
 use lib.ListN.{getD}
 use Rattle.image.specs.Answers.{alarmed}
-use Rattle.image.specs.Registers.{passwordControl, readPassword, fullPassword}
+use Rattle.image.specs.Registers.{readPassword, fullPassword}
 use Rattle.memory.specs.declared.Control.{Control}
 use Rattle.memory.specs.declared.Guarded.{Guarded}
 use Rattle.memory.specs.declared.Stage.{Stage}
 use Rattle.memory.specs.Field.{copies}
-use Rattle.promises.specs.Demand3.{EndsField, Converted, JustReset, Alike, NoPassword, AlarmsAgree, Premises}
+use Rattle.promises.specs.Demand3.{EndsField, Converted, NoPassword, AlarmsAgree, Begins, Premises}
 use Rattle.promises.specs.Runs.{State, Event, run, ticksOf, Always, Together}
 pub mod Walk
 pub mod Owner
@@ -68,17 +68,6 @@ pub record PremisesMet : Type 0 where
   pub tried-t : Tried field t F
 
 -- ---- (ii) and (iii): all premises but one hold, and the bits on the line differ
-
--- premises 1 to 3
-pub record Begins (s t : State) (E F : List Event) : Type 0 where
-  pub reset-s : JustReset s
-  pub reset-t : JustReset t
-  pub checked-s : passwordControl (s .image) ≡ 0xAA
-  pub checked-t : passwordControl (t .image) ≡ 0xAA
-  pub number : s .tag .exchange .number ≡ t .tag .exchange .number
-  pub held : s .tag .exchange .held ≡ t .tag .exchange .held
-  pub mark : s .tag .exchange .select .mark ≡ t .tag .exchange .select .mark
-  pub alike : Together (λ u e v f. Alike e f) s E t F
 
 -- (ii) all but premise 4: a field carries a password
 pub record FieldsNeeded : Type 0 where

@@ -114,8 +114,8 @@ twins-after s e t f w (wrong-s, wrong-t, Alike.ticks m n small-m small-n, alarms
 
 pub demand3 : Demand3
 demand3 s t E F p =
-    let guards-s = begins-guarded (p .reset-s) (p .checked-s) in
-    let guards-t = begins-guarded (p .reset-t) (p .checked-t) in
+    let guards-s = begins-guarded (p .begins .reset-s) (p .begins .checked-s) in
+    let guards-t = begins-guarded (p .begins .reset-t) (p .begins .checked-t) in
     let fields-s = always-map {Q = NoPassword (s .image)} (λ u e h. h .0) s E (p .fields-s) in
     let fields-t = always-map {Q = NoPassword (t .image)} (λ u e h. h .1) t F (p .fields-t) in
     record {
@@ -124,12 +124,12 @@ demand3 s t E F p =
           (record {
             guards-s = guards-s;
             guards-t = guards-t;
-            shut = reset-opened (p .reset-s);
-            same = reset-again (p .reset-s)
-                ∙ exchange-laws.reset-agree (s .tag .exchange) (t .tag .exchange) (p .number) (p .mark) (p .held)
-                ∙ sym (reset-again (p .reset-t));
+            shut = reset-opened (p .begins .reset-s);
+            same = reset-again (p .begins .reset-s)
+                ∙ exchange-laws.reset-agree (s .tag .exchange) (t .tag .exchange) (p .begins .number) (p .begins .mark) (p .begins .held)
+                ∙ sym (reset-again (p .begins .reset-t));
           })
-          (together-with (NoPassword (s .image)) (NoPassword (t .image)) (λ u e v f. Alike e f) AlarmsAgree s E t F fields-s fields-t (p .alike) (p .alarms))
+          (together-with (NoPassword (s .image)) (NoPassword (t .image)) (λ u e v f. Alike e f) AlarmsAgree s E t F fields-s fields-t (p .begins .alike) (p .alarms))
           .0;
       left-s = left-to-ticks s E guards-s (always-map (no-full (s .image)) s E fields-s);
       left-t = left-to-ticks t F guards-t (always-map (no-full (t .image)) t F fields-t);

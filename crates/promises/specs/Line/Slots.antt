@@ -128,7 +128,6 @@ unfolding after
 after-event s e h = ap leaves h
 
 line-event : (s : State) (e : Event) {out : Outcome} → happens s e ≡ out → lineBit s e ≡ out .answered .line
-unfolding lineBit
 line-event s e h = ap (λ (o : Outcome). o .answered .line) h
 
 run-event : (s : State) (e : Event) (es : List Event) {out : Outcome} → happens s e ≡ out →

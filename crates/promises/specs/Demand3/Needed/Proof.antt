@@ -18,8 +18,8 @@ use Rattle.image.specs.Registers.{readPassword, fullPassword}
 use Rattle.image.specs.Sent.Laws.{sent-user}
 use Rattle.select.specs.Runs as select-runs
 use Rattle.select.specs.Select as select
-use Rattle.promises.specs.Demand3.{Alike}
-use Rattle.promises.specs.Demand3.Needed.{PremisesMet, Begins, FieldsNeeded, AlarmsNeeded}
+use Rattle.promises.specs.Demand3.{Alike, Begins}
+use Rattle.promises.specs.Demand3.Needed.{PremisesMet, FieldsNeeded, AlarmsNeeded}
 use Rattle.promises.specs.Demand3.Needed.Alarms.{search, Choosing, choosing-line, choosing-unoffered}
 use Rattle.promises.specs.Demand3.Needed.Fields.{reader, reader-differs, skipping-unconditional}
 use Rattle.promises.specs.Demand3.Needed.Keys.{HasKeys}

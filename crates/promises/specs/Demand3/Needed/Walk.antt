@@ -20,10 +20,9 @@ use Rattle.select.specs.declared.Choosing.{Choosing}
 use Rattle.select.specs.declared.Choosing.the-variants.{Silent, Command, Reading, Matching, Giving, Complementing, Awaiting, Selected}
 use Rattle.select.specs.Select.{isChosen, isSelected, endsCommand}
 use Rattle.tag.specs.Tag.{answerTo, slotted, resetTag, tickTag}
-use Rattle.promises.specs.Demand3.{EndsField, Conditional, Alike, NoPassword, AlarmsAgree, Premises}
+use Rattle.promises.specs.Demand3.{EndsField, Conditional, Alike, NoPassword, AlarmsAgree, Begins, Premises}
 use Rattle.promises.specs.Demand3.Image.{mip-ticked, mip-forced}
 use Rattle.promises.specs.Demand3.Left.{NoFull, Guards, guards-checked, flag-stays, tick-cases}
-use Rattle.promises.specs.Demand3.Needed.{Begins}
 use Rattle.promises.specs.Demand3.Reset.{begins-guarded}
 use Rattle.promises.specs.Runs.{State, Event, after, run, Always, Together, OnSlots}
 use Rattle.promises.specs.Runs.Laws.{Sound, slot-happens, reset-happens, always-map}
@@ -200,14 +199,7 @@ module _ (s t : State) (E F : List Event) (begins : Begins s t E F) (wrong : ℕ
       let all-s = denies-always (s .image) (mip (s .image)) wrong rs fs s E (begins-guarded (begins .reset-s) (begins .checked-s), refl) given-s in
       let all-t = denies-always (t .image) (mip (t .image)) wrong rt ft t F (begins-guarded (begins .reset-t) (begins .checked-t), refl) given-t in
       record {
-        reset-s = begins .reset-s;
-        reset-t = begins .reset-t;
-        checked-s = begins .checked-s;
-        checked-t = begins .checked-t;
-        number = begins .number;
-        held = begins .held;
-        mark = begins .mark;
-        alike = begins .alike;
+        begins = begins;
         fields-s = always-map neither s E all-s;
         fields-t = always-map neither t F all-t;
         alarms = unconditional-agree s E t F (always-map (unconditional wrong) s E all-s) (begins .alike);
