@@ -2,14 +2,14 @@
 use image::peek;
 use image::poke;
 
-pub fn remember(image: &[u8], store: &mut [u8]) {
+pub(crate) fn remember(image: &[u8], store: &mut [u8]) {
     for i in 0..8832 {
         poke(store, i, peek(image, i));
     }
 }
 
 // Whether every byte is as remembered, but for the clock's six, 0200h-0205h.
-pub fn is_kept(image: &[u8], store: &[u8]) -> bool {
+pub(crate) fn is_kept(image: &[u8], store: &[u8]) -> bool {
     let mut same = true;
     for i in 0..8832 {
         same = same && (is_clock(i) || peek(image, i) == peek(store, i));

@@ -8,7 +8,7 @@ pub struct Line {
 }
 
 // A new tag, the one that source document 000 shows on its first page, as an L.
-pub fn begin(image: &mut [u8]) -> Line {
+pub(crate) fn begin(image: &mut [u8]) -> Line {
     let made = tag::new(image, 0xA1000000FBC52B41, 0x40);
     let tag = made.tag;
     let answer = made.answer;
@@ -19,7 +19,7 @@ pub fn begin(image: &mut [u8]) -> Line {
 }
 
 // One more thing that must be so.
-pub fn note(line: Line, right: bool) -> Line {
+pub(crate) fn note(line: Line, right: bool) -> Line {
     let tag = line.tag;
     Line {
         tag,
@@ -28,7 +28,7 @@ pub fn note(line: Line, right: bool) -> Line {
 }
 
 // One event, whose answer must have this number.
-pub fn event(image: &mut [u8], line: Line, code: u8, reading: u16, number: u8) -> Line {
+pub(crate) fn event(image: &mut [u8], line: Line, code: u8, reading: u16, number: u8) -> Line {
     let before = line.tag;
     let answered = tag::event(image, before, code, reading);
     let tag = answered.tag;
@@ -40,7 +40,7 @@ pub fn event(image: &mut [u8], line: Line, code: u8, reading: u16, number: u8) -
 }
 
 // A slot or a reset, which must leave this bit on the line.
-pub fn slot(image: &mut [u8], line: Line, code: u8, bit: bool) -> Line {
+pub(crate) fn slot(image: &mut [u8], line: Line, code: u8, bit: bool) -> Line {
     let before = line.tag;
     let answered = tag::event(image, before, code, 0);
     let tag = answered.tag;
@@ -51,7 +51,7 @@ pub fn slot(image: &mut [u8], line: Line, code: u8, bit: bool) -> Line {
 }
 
 // A byte, low bit first: read and expected, or sent to a tag that listens.
-pub fn byte(image: &mut [u8], line: Line, byte: u8, is_read: bool) -> Line {
+pub(crate) fn byte(image: &mut [u8], line: Line, byte: u8, is_read: bool) -> Line {
     let mut now = line;
     for i in 0..8 {
         let bit = bits::bit(byte as u64, i);
@@ -66,7 +66,7 @@ fn master(bit: bool, is_read: bool) -> u8 {
 }
 
 // The same byte, `count` times.
-pub fn bytes(image: &mut [u8], line: Line, value: u8, is_read: bool, count: u8) -> Line {
+pub(crate) fn bytes(image: &mut [u8], line: Line, value: u8, is_read: bool, count: u8) -> Line {
     let mut now = line;
     for _ in 0..count {
         now = byte(image, now, value, is_read);
@@ -75,7 +75,7 @@ pub fn bytes(image: &mut [u8], line: Line, value: u8, is_read: bool, count: u8) 
 }
 
 // `count` ticks with the same reading.
-pub fn ticks(image: &mut [u8], line: Line, reading: u16, count: u16) -> Line {
+pub(crate) fn ticks(image: &mut [u8], line: Line, reading: u16, count: u16) -> Line {
     let mut now = line;
     for _ in 0..count {
         now = event(image, now, 3, reading, 0);

@@ -25,7 +25,7 @@ pub struct Session {
 }
 
 // A session with a new tag.
-pub fn begin(image: &mut [u8]) -> Session {
+pub(crate) fn begin(image: &mut [u8]) -> Session {
     let line = line::begin(image);
     Session {
         line,
@@ -38,13 +38,13 @@ pub fn begin(image: &mut [u8]) -> Session {
 }
 
 // Whether all came as expected. A part whose digits are missing did not.
-pub fn is_right(session: Session) -> bool {
+pub(crate) fn is_right(session: Session) -> bool {
     let line = session.line;
     line.right && session.wanted == 0
 }
 
 // The next character.
-pub fn step(image: &mut [u8], store: &mut [u8], session: Session, c: u8) -> Session {
+pub(crate) fn step(image: &mut [u8], store: &mut [u8], session: Session, c: u8) -> Session {
     match c {
         b' ' => session,
         b'0'..=b'9' => digit(image, session, c - b'0'),

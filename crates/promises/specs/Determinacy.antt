@@ -78,6 +78,8 @@ use Rattle.dock.proofs.list_dump.Reads as dock-list-dump
 use Rattle.dock.proofs.seconds.Reads as dock-seconds
 use Rattle.dock.proofs.period.Reads as dock-period
 use Rattle.dock.proofs.temperature.Reads as dock-temperature
+use Rattle.dock.proofs.text.put_listing.Reads as dock-text-put-listing
+use Rattle.dock.proofs.text.refusal_line.Reads as dock-text-refusal-line
 
 -- A contract speaks of lifetimes, arguments, result and what is lent at exit. Two outcomes that it allows for the same arguments look
 -- the same, where `seen` is what a caller sees of an outcome: the result, and what stands behind each slice lent for writing.
@@ -345,3 +347,9 @@ dock-period-sole k a r s e f p q = p ∙ sym q
 
 dock-temperature-sole : Sole dock-temperature.Post (λ k r e. r)
 dock-temperature-sole k a r s e f p q = p ∙ sym q
+
+dock-text-put-listing-sole : Sole dock-text-put-listing.Post (λ k r e. with r (now (e .0)))
+dock-text-put-listing-sole k a r s e f p q = pair (p .0 ∙ sym (q .0)) (p .1 ∙ sym (q .1))
+
+dock-text-refusal-line-sole : Sole dock-text-refusal-line.Post (λ k r e. r)
+dock-text-refusal-line-sole k a r s e f p q = p ∙ sym q
