@@ -2,7 +2,7 @@
 
 
 class Fault(Exception):
-    """What a person is told, in one line, when something can't be done."""
+    """What a person is told, in one line, when something can't be done; no words where he has been told already."""
 
 
 def first_words(error):

@@ -40,14 +40,25 @@ def arguments(words):
     parser.add_argument("-o", "--output")
     parser.add_argument("--low", type=threshold)
     parser.add_argument("--high", type=threshold)
-    parser.add_argument("--play", type=shlex.split, default=[RUN, "play"])
-    parser.add_argument("--list", type=shlex.split, default=[RUN, "list"], dest="list_")
+    parser.add_argument("--play", type=program, default=[RUN, "play"])
+    parser.add_argument("--list", type=program, default=[RUN, "list"], dest="list_")
     options = parser.parse_args(words)
     if options.command in ("table", "picture"):
         options.file = options.file or "-"
     elif not options.file:
         raise Fault(f"{options.command}: say which session")
+    options.name = "standard input" if options.file == "-" else options.file
     return options
+
+
+def program(text):
+    try:
+        words = shlex.split(text)
+    except ValueError as error:
+        raise argparse.ArgumentTypeError(f"{str(error).lower()} in {text}") from None
+    if not words:
+        raise argparse.ArgumentTypeError("the command is empty")
+    return words
 
 
 def password(text):
@@ -73,14 +84,15 @@ def threshold(text):
 
 # ---- Files ----
 
-def read(path):
+def read(options):
+    """The text of the session or listing; a mark at its start that some editors write is passed over."""
     try:
-        with (open(0, encoding="utf-8", closefd=False) if path == "-" else open(path, encoding="utf-8")) as file:
+        with open(0 if options.file == "-" else options.file, encoding="utf-8-sig", closefd=options.file != "-") as file:
             return file.read()
     except OSError as error:
-        raise Fault(f"can't read {path}: {first_words(error)}") from None
+        raise Fault(f"can't read {options.name}: {first_words(error)}") from None
     except UnicodeDecodeError:
-        raise Fault(f"{path} is not text") from None
+        raise Fault(f"{options.name} is not text") from None
 
 
 def write(path, text):
@@ -103,16 +115,16 @@ def say(text):
 
 def played(options):
     """A session's text, its frames, and the bytes that each frame read."""
-    text = read(options.file)
-    frames = sessions.parse(text, options.file)
-    return text, frames, line.play(options.play, frames, options.file)
+    text = read(options)
+    frames = sessions.parse(text, options.name)
+    return text, frames, line.play(options.play, frames, options.name)
 
 
 def judged(options, frames, answers):
     """0, or 1 if the tag sent another byte than the session gives; each is told."""
     wrong = list(sessions.disagreements(frames, answers))
     for sentence in wrong:
-        say(f"{options.file}, {sentence}")
+        say(f"{options.name}, {sentence}")
     return 1 if wrong else 0
 
 
@@ -129,13 +141,13 @@ def record(options):
 
 
 def dump(options):
-    frames = sessions.parse(read(options.file), options.file)
-    write(options.output, line.take_dump(options.play, frames, options.password, options.file))
+    frames = sessions.parse(read(options), options.name)
+    write(options.output, line.take_dump(options.play, frames, options.password, options.name))
     return 0
 
 
 def table(options):
-    entries = listing.parse(read(options.file), options.file)
+    entries = listing.parse(read(options), options.name)
     write(options.output, table_text(entries, listing.Thresholds(options.low, options.high)))
     return 0
 
@@ -145,22 +157,22 @@ def table_text(entries, thresholds):
 
 
 def draw(options):
-    entries = listing.parse(read(options.file), options.file)
+    entries = listing.parse(read(options), options.name)
     write(options.output, picture.svg(entries, listing.Thresholds(options.low, options.high)))
     return 0
 
 
 def show(options):
     """The main job, with every step told on standard error; the table alone goes to standard output."""
-    frames = sessions.parse(read(options.file), options.file)
+    frames = sessions.parse(read(options), options.name)
     if [RUN] == options.play[:1] and line.run([RUN, "--build", "play", "list"], b""):
         raise Fault("play and list were not built")
-    say(f"playing {options.file}: {sum(map(sessions.events_in, frames[1:])):,} events, "
+    say(f"playing {options.name}: {sum(map(sessions.events_in, frames[1:])):,} events, "
         f"then {len(line.PAGES)} pages by Read Memory ..")
-    text = line.take_dump(options.play, frames, options.password, options.file)
+    text = line.take_dump(options.play, frames, options.password, options.name)
     say("listing the dump ..")
     listed = line.run(options.list_, text.encode()).decode("ascii", "replace")
-    entries = listing.parse(listed, f"the dump of {options.file}")
+    entries = listing.parse(listed, f"the dump of {options.name}")
     thresholds = listing.thresholds_in(text)
     rows = table_text(entries, thresholds)
     folder = options.output or os.path.join(TOP, "target", "shown")
@@ -178,7 +190,7 @@ def save(folder, session, parts):
         os.makedirs(folder, exist_ok=True)
     except OSError as error:
         raise Fault(f"can't make the folder {folder}: {first_words(error)}") from None
-    name = os.path.splitext(os.path.basename(session))[0]
+    name = "session" if session == "-" else os.path.splitext(os.path.basename(session))[0]
     paths = [os.path.relpath(os.path.join(folder, f"{name}.{ending}")) for ending, _ in parts]
     for path, (_, text) in zip(paths, parts):
         write(path, text)
@@ -199,7 +211,8 @@ def main(words):
         sys.stdout.flush()
         return status
     except Fault as fault:
-        say(fault)
+        if fault.args:
+            say(fault)
         return 2
     except BrokenPipeError:  # whoever read our output has had enough
         os.dup2(os.open(os.devnull, os.O_WRONLY), 1)

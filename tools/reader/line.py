@@ -1,5 +1,6 @@
 """Driving the program `play`: frames to events, line bits to bytes, and the dump by Read Memory, slot by slot."""
 
+import os
 import subprocess
 
 from . import Fault, first_words
@@ -46,6 +47,8 @@ def run(command, stdin):
         done = subprocess.run(command, input=stdin, stdout=subprocess.PIPE)
     except OSError as error:
         raise Fault(f"can't run '{command[0]}': {first_words(error)}") from None
+    if done.returncode == 2 and os.path.basename(command[0]) == "run":  # our own script, which says why
+        raise Fault
     if done.returncode:
         raise Fault(f"'{' '.join(command)}' ended with status {done.returncode}")
     return done.stdout

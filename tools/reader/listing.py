@@ -47,7 +47,7 @@ def parse(text, name):
     if not head or int(head[1], 16) not in DEVICES:
         raise Fault(f"{name}, line 1: not a listing's first line (code 40 or 60, number held, stamp: 22 digits)")
     if lines[-1] or len(lines) - 2 != int(head[2], 16):
-        raise Fault(f"{name}: its first line says {int(head[2], 16):,} entries, and it has {max(0, len(lines) - 2):,}")
+        raise Fault(f"{name}: its first line says {counted(int(head[2], 16))}, and it has {max(0, len(lines) - 2):,}")
     return Listing(int(head[1], 16), bytes.fromhex(head[3]), [entry_of(line, at, name) for at, line in enumerate(lines[1:-1], 2)])
 
 
@@ -128,7 +128,7 @@ def log_words(listing):
     entries = listing.entries
     if not entries:
         return ["The log holds no entry."]
-    words = [f"{len(entries):,} {'entry' if len(entries) == 1 else 'entries'}{every(entries)}."]
+    words = [f"{counted(len(entries))}{every(entries)}."]
     if entries[0].k:
         older = "Entry 0 was" if entries[0].k == 1 else f"The {entries[0].k:,} older entries were"
         words.append(f"{older} overwritten (rollover): the log holds the last {len(entries):,}.")
@@ -138,6 +138,10 @@ def log_words(listing):
     if entries[0].seconds < 0:
         words.append("Entry 0 is the alarm that started the log; the stamp is that of entry 1.")
     return words
+
+
+def counted(number):
+    return f"{number:,} {'entry' if number == 1 else 'entries'}"
 
 
 def every(entries):
