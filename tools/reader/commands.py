@@ -165,8 +165,8 @@ def draw(options):
 def show(options):
     """The main job, with every step told on standard error; the table alone goes to standard output."""
     frames = sessions.parse(read(options), options.name)
-    if [RUN] == options.play[:1] and line.run([RUN, "--build", "play", "list"], b""):
-        raise Fault("play and list were not built")
+    if options.play[0] == RUN:
+        line.run([RUN, "--build", "play", "list"], b"")
     say(f"playing {options.name}: {sum(map(sessions.events_in, frames[1:])):,} events, "
         f"then {len(line.PAGES)} pages by Read Memory ..")
     text = line.take_dump(options.play, frames, options.password, options.name)
@@ -185,23 +185,30 @@ def show(options):
 
 
 def save(folder, session, parts):
-    """Writes each part beside the others, by the session's name; returns the paths, as short as they can be said."""
+    """Writes each part beside the others, by the session's name; returns the paths."""
     try:
         os.makedirs(folder, exist_ok=True)
     except OSError as error:
         raise Fault(f"can't make the folder {folder}: {first_words(error)}") from None
     name = "session" if session == "-" else os.path.splitext(os.path.basename(session))[0]
-    paths = [os.path.relpath(os.path.join(folder, f"{name}.{ending}")) for ending, _ in parts]
+    paths = [short(os.path.join(folder, f"{name}.{ending}")) for ending, _ in parts]
     for path, (_, text) in zip(paths, parts):
         write(path, text)
     return paths
+
+
+def short(path):
+    """From the current folder, if the path leads there."""
+    near = os.path.relpath(path)
+    return os.path.abspath(path) if near.startswith("..") else near
 
 
 COMMANDS = {"play": play, "record": record, "dump": dump, "table": table, "picture": draw, "show": show}
 
 
 def main(words):
-    """The exit status: 0 done, 1 refused or not as the session says, 2 bad input or nothing to run."""
+    """The exit status: 0 done, 1 the tag sent another byte than the session says, 2 it can't be done."""
+    sys.stdout.reconfigure(encoding="utf-8")
     if not words or words[0] in ("-h", "--help", "help"):
         print(USAGE)
         return 0 if words else 2

@@ -1,6 +1,7 @@
 """Driving the program `play`: frames to events, line bits to bytes, and the dump by Read Memory, slot by slot."""
 
 import os
+import re
 import subprocess
 
 from . import Fault, first_words
@@ -57,13 +58,12 @@ def run(command, stdin):
 def check_answers(output, frames, name):
     """Each event has its answer, 0 or 1 and a line feed; a refusal is told with the frame that it came for."""
     total = sum(map(events_in, frames[1:]))
-    refused = output[-4:-3] == b"R"
-    if refused:
-        answered = len(output[:-4]) // 2
-        number = int(output[-3:-1])
+    refusal = re.fullmatch(rb"R([0-9]{2})\n", output[-4:])
+    if refusal:
+        answered, number = len(output[:-4]) // 2, int(refusal[1])
         line = frames[0].line if not answered else line_of_event(frames, answered)
         raise Fault(f"{name}, line {line}: the tag refused with {number:02d}: {REFUSALS.get(number, 'no known refusal')}")
-    if len(output) != 2 * total or output.translate(None, b"01\n"):
+    if len(output) != 2 * total or output[::2].strip(b"01") or output[1::2].strip(b"\n"):
         raise Fault(f"'play' did not answer each of the {total:,} events of {name} with 0 or 1")
 
 
