@@ -172,7 +172,7 @@ def plot(listing, thresholds, moment):
     yield f'<clipPath id="alarm">{"".join(zones)}</clipPath>'
     yield f'<path class="line" stroke-width="{thick}" d="{path}"/>'
     if zones:
-        yield f'<path class="line alarm" stroke-width="{thick}" clip-path="url(#alarm)" d="{path}"/>'
+        yield f'<path class="line alarm" stroke-width="{thick + 0.4:.1f}" clip-path="url(#alarm)" d="{path}"/>'
     yield from markers(listing, thresholds, times, degrees, moment)
 
 
