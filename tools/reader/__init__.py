@@ -5,6 +5,6 @@ class Fault(Exception):
     """What a person is told, in one line, when something can't be done; no words where he has been told already."""
 
 
-def first_words(error):
+def reason(error):
     """An operating system's error in a few words."""
     return (error.strerror or str(error)).lower()

@@ -5,7 +5,7 @@ import os
 import shlex
 import sys
 
-from . import Fault, first_words, line, listing, picture, sessions
+from . import Fault, reason, line, listing, picture, sessions
 
 TOP = os.path.dirname(os.path.dirname(os.path.dirname(os.path.realpath(__file__))))
 RUN = os.path.join(TOP, "run")
@@ -90,7 +90,7 @@ def read(options):
         with open(0 if options.file == "-" else options.file, encoding="utf-8-sig", closefd=options.file != "-") as file:
             return file.read()
     except OSError as error:
-        raise Fault(f"can't read {options.name}: {first_words(error)}") from None
+        raise Fault(f"can't read {options.name}: {reason(error)}") from None
     except UnicodeDecodeError:
         raise Fault(f"{options.name} is not text") from None
 
@@ -104,7 +104,7 @@ def write(path, text):
         with open(path, "w", encoding="utf-8") as file:
             file.write(text)
     except OSError as error:
-        raise Fault(f"can't write {path}: {first_words(error)}") from None
+        raise Fault(f"can't write {path}: {reason(error)}") from None
 
 
 def say(text):
@@ -189,7 +189,7 @@ def save(folder, session, parts):
     try:
         os.makedirs(folder, exist_ok=True)
     except OSError as error:
-        raise Fault(f"can't make the folder {folder}: {first_words(error)}") from None
+        raise Fault(f"can't make the folder {folder}: {reason(error)}") from None
     name = "session" if session == "-" else os.path.splitext(os.path.basename(session))[0]
     paths = [short(os.path.join(folder, f"{name}.{ending}")) for ending, _ in parts]
     for path, (_, text) in zip(paths, parts):

@@ -4,9 +4,9 @@ import os
 import re
 import subprocess
 
-from . import Fault, first_words
+from . import Fault, reason
 from .listing import REFUSALS
-from .sessions import ANY, NEW_TAG, READ, RESET, TICK, WRITE, Frame, events_in
+from .sessions import ANY, READ, RESET, TICK, WRITE, Frame, events_in
 
 MATCH_ROM, READ_MEMORY = 0x55, 0x69
 PAGES = (0x0200, 0x0220, *range(0x1000, 0x3000, 32))  # of a dump, in its order
@@ -47,7 +47,7 @@ def run(command, stdin):
     try:
         done = subprocess.run(command, input=stdin, stdout=subprocess.PIPE)
     except OSError as error:
-        raise Fault(f"can't run '{command[0]}': {first_words(error)}") from None
+        raise Fault(f"can't run '{command[0]}': {reason(error)}") from None
     if done.returncode == 2 and os.path.basename(command[0]) == "run":  # our own script, which says why
         raise Fault
     if done.returncode:

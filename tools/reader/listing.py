@@ -89,11 +89,10 @@ def calendar_start(listing):
     """The stamp's date and time if every entry has one, else None: times then count from the stamp."""
     moment = start(listing)
     try:
-        if moment and listing.entries:
-            _ = moment + timedelta(seconds=listing.entries[0].seconds), moment + timedelta(seconds=listing.entries[-1].seconds)
-        return moment
+        extent(listing, moment)
     except OverflowError:
         return None
+    return moment
 
 
 def stamp_words(listing):
