@@ -72,41 +72,42 @@ number-good : goodNumber number ≡ true
 unfolding goodNumber goodCrc taps crcBit crcBits mask8 crc8Of bitOf bitsOf xor
 number-good = refl
 
-abbrev blank : List ℕ
-blank = newImage 8832
+-- its image, and the tag that is made over any image lent, as over this one
+abbrev fresh : List ℕ
+fresh = newImage 8832
 
 abbrev made : State
-made = leaves (newTag blank number 0x40)
+made = leaves (newTag fresh number 0x40)
 
-made-owned : Owned number blank made
+made-owned : Owned number fresh made
 unfolding goodCode
 made-owned =
-    let fresh = new-made blank number 0x40 (length-new 8832) number-good refl in
+    let new = new-made fresh number 0x40 (length-new 8832) number-good refl in
     record {
-      reached = Reached.new blank number 0x40 (ap (λ (o : Outcome). o .answered .answer) fresh);
-      numbered = ap (λ (o : Outcome). o .answered .tag .exchange .number) fresh;
-      holds = ap (λ (o : Outcome). o .image) fresh;
+      reached = Reached.new fresh number 0x40 (ap (λ (o : Outcome). o .answered .answer) new);
+      numbered = ap (λ (o : Outcome). o .answered .tag .exchange .number) new;
+      holds = ap (λ (o : Outcome). o .image) new;
     }
 
-blank-at : (k : ℕ) → k ≢ 0x0214 → getD blank k 0 ≡ 0
+fresh-at : (k : ℕ) → k ≢ 0x0214 → getD fresh k 0 ≡ 0
 unfolding newImage
-blank-at k ne = getD-set-other {A = ℕ} (replicate 8832 0) 0x0214 k 0x80 0 ne ∙ byte-blank 8832 k
+fresh-at k ne = getD-set-other {A = ℕ} (replicate 8832 0) 0x0214 k 0x80 0 ne ∙ byte-blank 8832 k
 
-blank-flags : getD blank 0x0214 0 ≡ 0x80
+fresh-flags : getD fresh 0x0214 0 ≡ 0x80
 unfolding newImage
-blank-flags = getD-set-same {A = ℕ} (replicate 8832 0) 0x0214 0x80 0 (omega (arith, length-replicate {A = ℕ} 8832 0))
+fresh-flags = getD-set-same {A = ℕ} (replicate 8832 0) 0x0214 0x80 0 (omega (arith, length-replicate {A = ℕ} 8832 0))
 
-blank-off : checked blank ≡ false
+fresh-off : checked fresh ≡ false
 unfolding checked
-blank-off = rw (blank-at 0x0227 (omega arith))
+fresh-off = rw (fresh-at 0x0227 (omega arith))
 
-blank-idle : mip blank ≡ false
+fresh-idle : mip fresh ≡ false
 unfolding flagAt bitOf
-blank-idle = rw (blank-at 0x0215 (omega arith))
+fresh-idle = rw (fresh-at 0x0215 (omega arith))
 
-blank-alarmed : alarmed blank ≡ true
+fresh-alarmed : alarmed fresh ≡ true
 unfolding alarmed flagAt bitOf
-blank-alarmed = rw blank-flags
+fresh-alarmed = rw fresh-flags
 
 -- ---- what is known of each of the two
 
@@ -133,44 +134,44 @@ prepared r keyed idle flags =
 abbrev pub first : State
 first = ready (stored made 0x0227 firstKeys) pad
 
-first-keeps : Keeps ((0x0227, 25) ∷ []) blank (storedRun blank 0x0227 firstKeys)
-first-keeps = keeps-storedRun blank 0x0227 firstKeys
+first-keeps : Keeps ((0x0227, 25) ∷ []) fresh (storedRun fresh 0x0227 firstKeys)
+first-keeps = keeps-storedRun fresh 0x0227 firstKeys
 
-first-ready : Ready number (storedRun blank 0x0227 firstKeys) pad first
+first-ready : Ready number (storedRun fresh 0x0227 firstKeys) pad first
 first-ready =
-    let keyed = stored-owned made-owned blank-off 0x0227 firstKeys (omega arith) refl (bytes-of firstKeys tt) blank-idle in
+    let keyed = stored-owned made-owned fresh-off 0x0227 firstKeys (omega arith) refl (bytes-of firstKeys tt) fresh-idle in
     is-ready keyed pad refl (bytes-of pad tt)
 
 pub first-prepared : Prepared firstKeys true first
 first-prepared =
-    prepared first-ready (keys-stored blank firstKeys (length-new 8832) refl (bytes-of firstKeys tt))
-    (flag-kept 0x0215 1 first-keeps tt ∙ blank-idle) (alarmed-kept first-keeps tt ∙ blank-alarmed)
+    prepared first-ready (keys-stored fresh firstKeys (length-new 8832) refl (bytes-of firstKeys tt))
+    (flag-kept 0x0215 1 first-keeps tt ∙ fresh-idle) (alarmed-kept first-keeps tt ∙ fresh-alarmed)
 
--- its user memory is blank
+-- its user memory is all zeros
 pub first-user : (k : ℕ) → k < 0x0200 → getD (first .image) k 0 ≡ 0
 first-user k low =
     let untouched = and-i (apart 0x0227 25 k 1) true (apart-of 0x0227 25 k 1 (inr (omega arith))) tt in
-    rw (first-ready .holds) (first-keeps .bytes k untouched ∙ blank-at k (omega arith))
+    rw (first-ready .holds) (first-keeps .bytes k untouched ∙ fresh-at k (omega arith))
 
 -- ---- the second
 
 abbrev emptied : List ℕ
-emptied = cleared blank
+emptied = cleared fresh
 
 emptied-long : length emptied ≡ 8832
-emptied-long = leaves-cleared blank .keeps .lengths ∙ length-new 8832
+emptied-long = leaves-cleared fresh .keeps .lengths ∙ length-new 8832
 
 emptied-off : checked emptied ≡ false
-emptied-off = checked-kept (leaves-cleared blank .keeps) tt ∙ blank-off
+emptied-off = checked-kept (leaves-cleared fresh .keeps) tt ∙ fresh-off
 
 emptied-idle : mip emptied ≡ false
-emptied-idle = mip-cleared blank ∙ blank-idle
+emptied-idle = mip-cleared fresh ∙ fresh-idle
 
 emptied-silent : alarmed emptied ≡ false
 unfolding alarmed
 emptied-silent =
-    let whole : Whole blank = rw (made-owned .holds) at (reached-solid (made-owned .reached) .whole) in
-    let none = commands.clears whole blank-idle in
+    let whole : Whole fresh = rw (made-owned .holds) at (reached-solid (made-owned .reached) .whole) in
+    let none = commands.clears whole fresh-idle in
     rw (none .bor, none .thf, none .tlf)
 
 abbrev filled : List ℕ
@@ -190,7 +191,7 @@ second-keeps = keeps-storedRun filled 0x0227 secondKeys
 
 second-ready : Ready number (storedRun filled 0x0227 secondKeys) pad second
 second-ready =
-    let cleaned = cleared-owned made-owned blank-off in
+    let cleaned = cleared-owned made-owned fresh-off in
     let filling = stored-owned cleaned emptied-off 0x0000 secret (omega arith) refl (bytes-of secret tt) emptied-idle in
     let off = checked-kept filled-keeps tt ∙ emptied-off in
     let keyed = stored-owned filling off 0x0227 secondKeys (omega arith) refl (bytes-of secondKeys tt) filled-idle in
