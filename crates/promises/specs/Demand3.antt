@@ -84,11 +84,15 @@ pub record Begins (s t : State) (E F : List Event) : Type 0 where
   pub mark : s .tag .exchange .select .mark ≡ t .tag .exchange .select .mark
   pub alike : Together (λ u e v f. Alike e f) s E t F
 
+-- premise 4: in neither run a field carries any of "their four passwords"
+abbrev pub NoneCarried : State → State → List Event → List Event → Type 0
+NoneCarried s t E F =
+    Always (λ u e. NoPassword (s .image) u e × NoPassword (t .image) u e) s E
+    × Always (λ u e. NoPassword (s .image) u e × NoPassword (t .image) u e) t F
+
 pub record Premises (s t : State) (E F : List Event) : Type 0 where
   pub begins : Begins s t E F
-  -- any of "their four passwords", in either run
-  pub fields-s : Always (λ u e. NoPassword (s .image) u e × NoPassword (t .image) u e) s E
-  pub fields-t : Always (λ u e. NoPassword (s .image) u e × NoPassword (t .image) u e) t F
+  pub fields : NoneCarried s t E F
   pub alarms : Together AlarmsAgree s E t F
 
 -- ---- what follows

@@ -1,5 +1,5 @@
--- Demand 3 says something: its premises can be met, and its last two are needed. Three statements, each of two tags and two runs that
--- there are. `premises-met`, `fields-needed` and `alarms-needed` in Needed/Proof.antt prove them. Assumes nothing.
+-- Demand 3 says something: all its premises can be met, and the last two are needed. Three statements, each of two tags and two
+-- runs that there are: `premises-met`, `fields-needed` and `alarms-needed` in Needed/Proof.antt prove them. Assumes nothing.
 use mathlib.Core.Path.{_≡_}
 use mathlib.Core.Bool.{Bool, true}
 use mathlib.Core.List.{List, _∷_, _++_}
@@ -12,20 +12,20 @@ use Rattle.memory.specs.declared.Control.{Control}
 use Rattle.memory.specs.declared.Guarded.{Guarded}
 use Rattle.memory.specs.declared.Stage.{Stage}
 use Rattle.memory.specs.Field.{copies}
-use Rattle.promises.specs.Demand3.{EndsField, Converted, NoPassword, AlarmsAgree, Begins, Premises}
-use Rattle.promises.specs.Runs.{State, Event, run, ticksOf, Always, Together}
+use Rattle.promises.specs.Demand3.{EndsField, Converted, AlarmsAgree, NoneCarried, Begins, Premises}
+use Rattle.promises.specs.Runs.{State, Event, run, ticksOf, Together}
 pub mod Walk
-pub mod Owner
-pub mod Keys
-pub mod Tags
 pub mod Stranger
 pub mod Fields
 pub mod Alarms
+pub mod Owner
+pub mod Keys
+pub mod Tags
 pub mod Proof
 
--- ---- (i) all premises can be met, by a stranger who has tried every command
+-- ---- (i) all premises can be met, while a stranger tries every command
 
--- at some place of the run comes a slot of which this holds
+-- at some place of the run a slot comes of which this holds
 pub record Sometime (P : State → Bool → Type 0) (s : State) (E : List Event) : Type 0 where
   pub before : List Event
   pub bit : Bool
@@ -33,13 +33,14 @@ pub record Sometime (P : State → Bool → Type 0) (s : State) (E : List Event)
   pub split : E ≡ before ++ (Event.slot bit ∷ rest)
   pub holds : P (run s before .state) bit
 
--- this slot is the last bit of this command's password field, and the field carries these eight bytes
+-- the slot is the last bit of this command's password field, and the field carries these eight bytes
 abbrev pub Offers : Guarded → ℕ → State → Bool → Type 0
 Offers g field u bit = (u .tag .exchange .bus .stage ≡ Stage.Gathers g) × EndsField (u .tag .exchange) bit field
 
--- of a Copy: TA and E/S are as held, and up to the page's end, so that it is done if the image lets this field pass
+-- of a Copy, too: TA and E/S are as held, and up to the page's end, so that only the password is wrong
 abbrev pub OffersCopy : ℕ → State → Bool → Type 0
-OffersCopy field u bit = Offers Guarded.Copying field u bit × (copies (u .tag .exchange .held) (u .tag .exchange .bus) true ≡ true)
+OffersCopy field u bit =
+    Offers Guarded.Copying field u bit × (copies (u .tag .exchange .held) (u .tag .exchange .bus) true ≡ true)
 
 -- Copy, Read Memory, Clear, Start and Stop, each with this whole field, and a Forced Conversion, which asks for none and is done
 pub record Tried (field : ℕ) (s : State) (E : List Event) : Type 0 where
@@ -56,20 +57,20 @@ pub record PremisesMet : Type 0 where
   pub E : List Event
   pub F : List Event
   pub premises : Premises s t E F
-  -- the tags differ in both passwords, in user memory and in whether an alarm flag is set, and the runs in their ticks' readings
+  -- the tags differ in both passwords, in the first byte of user memory and in whether an alarm flag is set; the runs in readings
   pub read : readPassword (s .image) ≢ readPassword (t .image)
   pub full : fullPassword (s .image) ≢ fullPassword (t .image)
-  pub memory : getD (s .image) 0 0 ≢ getD (t .image) 0 0
+  pub memory : getD (s .image) 0x0000 0 ≢ getD (t .image) 0x0000 0
   pub flags : alarmed (s .image) ≢ alarmed (t .image)
   pub readings : ticksOf E ≢ ticksOf F
-  -- and in both runs a stranger has tried all
+  -- and in both runs all is tried with one field
   pub field : ℕ
   pub tried-s : Tried field s E
   pub tried-t : Tried field t F
 
--- ---- (ii) and (iii): all premises but one hold, and the bits on the line differ
+-- ---- (ii) and (iii): all premises but one hold, that one fails, and the bits on the line differ
 
--- (ii) all but premise 4: a field carries a password
+-- (ii) premise 4 alone fails: a field carries a password
 pub record FieldsNeeded : Type 0 where
   pub s : State
   pub t : State
@@ -77,15 +78,16 @@ pub record FieldsNeeded : Type 0 where
   pub F : List Event
   pub begins : Begins s t E F
   pub alarms : Together AlarmsAgree s E t F
+  pub carried : NoneCarried s t E F → ⊥
   pub differ : run s E .line ≢ run t F .line
 
--- (iii) all but premise 5: at a Conditional Search one tag has an alarm flag set, the other none
+-- (iii) premise 5 alone fails: at a Conditional Search one tag has an alarm flag set, and the other none
 pub record AlarmsNeeded : Type 0 where
   pub s : State
   pub t : State
   pub E : List Event
   pub F : List Event
   pub begins : Begins s t E F
-  pub fields-s : Always (λ u e. NoPassword (s .image) u e × NoPassword (t .image) u e) s E
-  pub fields-t : Always (λ u e. NoPassword (s .image) u e × NoPassword (t .image) u e) t F
+  pub fields : NoneCarried s t E F
+  pub disagree : Together AlarmsAgree s E t F → ⊥
   pub differ : run s E .line ≢ run t F .line

@@ -116,8 +116,8 @@ pub demand3 : Demand3
 demand3 s t E F p =
     let guards-s = begins-guarded (p .begins .reset-s) (p .begins .checked-s) in
     let guards-t = begins-guarded (p .begins .reset-t) (p .begins .checked-t) in
-    let fields-s = always-map {Q = NoPassword (s .image)} (λ u e h. h .0) s E (p .fields-s) in
-    let fields-t = always-map {Q = NoPassword (t .image)} (λ u e h. h .1) t F (p .fields-t) in
+    let fields-s = always-map {Q = NoPassword (s .image)} (λ u e h. h .0) s E (p .fields .0) in
+    let fields-t = always-map {Q = NoPassword (t .image)} (λ u e h. h .1) t F (p .fields .1) in
     record {
       line =
           relation (Twins (s .image) (t .image)) (Come (s .image) (t .image)) twins-after s E t F

@@ -58,7 +58,8 @@ unfolding Always
 always-map f s [] always = tt
 always-map f s (e ∷ es) always = (f s e (always .0), always-map f (after s e) es (always .1))
 
-pub always-append : (P : State → Event → Type 0) (s : State) (es fs : List Event) → Always P s es → Always P (run s es .state) fs → Always P s (es ++ fs)
+pub always-append : (P : State → Event → Type 0) (s : State) (es fs : List Event) →
+    Always P s es → Always P (run s es .state) fs → Always P s (es ++ fs)
 unfolding Always run
 always-append P s [] fs first rest = rest
 always-append P s (e ∷ es) fs first rest = (first .0, always-append P (after s e) es fs (first .1) rest)
@@ -149,7 +150,8 @@ unfolding after slotted resetTag tickTag
 number-after {s} (Event.slot bit) sound = rw (slot-happens sound bit) (number-kept (s .tag .exchange) bit _)
 number-after Event.reset sound = rw (reset-happens sound)
 number-after (Event.tick reading) sound =
-    dite (decLe reading 2047) (λ small. rw (tick-happens sound reading small)) (λ high. rw (tick-refused sound reading (omega arith)))
+    dite (decLe reading 2047) (λ small. rw (tick-happens sound reading small))
+    (λ high. rw (tick-refused sound reading (omega arith)))
 
 pub number-run : {s : State} (es : List Event) → Sound s → run s es .state .tag .exchange .number ≡ s .tag .exchange .number
 unfolding run

@@ -1,19 +1,17 @@
--- A Conditional Search and two slots more: a tag with an alarm flag set sends the first bit of its number and its complement, one with none
--- is silent; no field comes in either. Assumes nothing.
+-- A Conditional Search and two slots more: a tag with an alarm flag set sends the first bit of its number and its complement, one
+-- with none is silent; no field comes to either. Assumes nothing.
 use mathlib.Core.Path.{_≡_, refl, sym, ap, _∙_}
-use mathlib.Core.Bool.{Bool, true, false, not, _&&_, and-eq-true-iff, false≢true, true≢false}
+use mathlib.Core.Bool.{Bool, true, false, not, and-eq-true-iff, true≢false}
 use mathlib.Core.List.{List, [], _∷_, _++_, map}
 use Prim.Native.Nat.{ℕ}
 use lib.Dec.{eqb}
 use Rattle.bits.specs.Bits.{digit, bitsOf}
-use Rattle.exchange.specs.declared.Exchange.{Exchange}
-use Rattle.exchange.specs.Runs as exchange
 use Rattle.exchange.specs.Runs.Laws.{run-choosing}
 use Rattle.image.specs.Answers.{alarmed}
 use Rattle.memory.specs.declared.Question.{Question}
-use Rattle.select.specs.Runs as select-runs
-use Rattle.select.specs.Select as select
-use Rattle.select.specs.Select.{isSelected}
+use Rattle.select.specs.declared.Select.{Select}
+use Rattle.select.specs.Runs as runs
+use Rattle.select.specs.Select.{slotOf, isSelected}
 use Rattle.tag.specs.Tag.{answerTo}
 use Rattle.promises.specs.Demand3.{NoPassword}
 use Rattle.promises.specs.Line.Slots.{withExchange, answersOf, run-slots, slots-quiet}
@@ -24,9 +22,12 @@ use Rattle.promises.specs.Runs.Laws.{Sound, sound-after, always-map}
 abbrev pub search : List Bool
 search = bitsOf 8 0xEC ++ (true ∷ true ∷ [])
 
--- slots in which a tag is still being chosen
+-- slots in which a tag is still being chosen, and what the line carries in them
 abbrev pub Choosing : State → List Bool → Type 0
-Choosing u bits = select-runs.stillChoosing (u .tag .exchange .select) (u .tag .exchange .number) (alarmed (u .image)) bits ≡ true
+Choosing u bits = runs.stillChoosing (u .tag .exchange .select) (u .tag .exchange .number) (alarmed (u .image)) bits ≡ true
+
+abbrev pub choosingLine : State → List Bool → List Bool
+choosingLine u bits = runs.run (u .tag .exchange .select) (u .tag .exchange .number) (alarmed (u .image)) bits .line
 
 alarm-known : (u : State) → eqb (answersOf u Question.Alarm) 1 ≡ alarmed (u .image)
 unfolding answerTo
@@ -36,44 +37,56 @@ alarm-known u = by (alarmed (u .image))
     by true = refl
     by false = refl
 
--- what the line carries in them is select's
+-- the tag with another place of choosing
+abbrev choosingAt : State → Select → State
+choosingAt u select =
+    let x = u .tag .exchange in
+    withExchange u (record { number = x .number; select = select; held = x .held; bus = x .bus })
+
+-- they are select's own
+choosing-run : (u : State) (bits : List Bool) → Sound u → Choosing u bits →
+    let ran = runs.run (u .tag .exchange .select) (u .tag .exchange .number) (alarmed (u .image)) bits in
+    run u (map Event.slot bits) ≡ record { line = ran .line; state = choosingAt u (ran .select) }
+choosing-run u bits sound still =
+    run-slots u bits sound
+    ∙ slots-quiet u bits (rw (alarm-known u) at (run-choosing (answersOf u) (u .tag .exchange) bits (rw (alarm-known u) still)))
+
 pub choosing-line : (u : State) (bits : List Bool) → Sound u → Choosing u bits →
-    run u (map Event.slot bits) .line ≡ select-runs.run (u .tag .exchange .select) (u .tag .exchange .number) (alarmed (u .image)) bits .line
-choosing-line u bits sound still =
-    ap (λ (r : Ran). r .line)
-    (run-slots u bits sound
-    ∙ slots-quiet u bits (rw (alarm-known u) at (run-choosing (answersOf u) (u .tag .exchange) bits (rw (alarm-known u) still))))
+    run u (map Event.slot bits) .line ≡ choosingLine u bits
+choosing-line u bits sound still = ap (λ (r : Ran). r .line) (choosing-run u bits sound still)
 
 -- the state after one of them
 choosing-after : (u : State) (bit : Bool) → Sound u → isSelected (u .tag .exchange .select) ≡ false →
-    let x = u .tag .exchange in
     after u (Event.slot bit) ≡
-    withExchange u (record { number = x .number; select = select.slotOf (x .select) (x .number) bit (alarmed (u .image)) .select; held = x .held; bus = x .bus })
-unfolding run select-runs.run select-runs.stillChoosing
-choosing-after u bit sound unchosen =
-    ap (λ (r : Ran). r .state)
-    (run-slots u (bit ∷ []) sound
-    ∙ slots-quiet u (bit ∷ []) (rw (alarm-known u) at (run-choosing (answersOf u) (u .tag .exchange) (bit ∷ []) (rw unchosen))))
+    choosingAt u (slotOf (u .tag .exchange .select) (u .tag .exchange .number) bit (alarmed (u .image)) .select)
+unfolding run runs.run runs.stillChoosing
+choosing-after u bit sound unchosen = ap (λ (r : Ran). r .state) (choosing-run u (bit ∷ []) sound (rw unchosen))
 
--- and no field ends
-never-chosen : (u : State) (bits : List Bool) → Sound u → Choosing u bits →
-    Always (OnSlots (λ v bit. isSelected (v .tag .exchange .select) ≡ false)) u (map Event.slot bits)
-unfolding Always select-runs.stillChoosing
+-- ---- no field ends
+
+-- nothing is said of resets and ticks
+abbrev Unchosen : State → Event → Type 0
+Unchosen = OnSlots (λ u bit. isSelected (u .tag .exchange .select) ≡ false)
+
+never-chosen : (u : State) (bits : List Bool) → Sound u → Choosing u bits → Always Unchosen u (map Event.slot bits)
+unfolding Always runs.stillChoosing
 never-chosen u [] sound still = tt
 never-chosen u (bit ∷ bits) sound still =
     let both = and-eq-true-iff (not (isSelected (u .tag .exchange .select))) _ .0 still in
     let unchosen = not-true (isSelected (u .tag .exchange .select)) (both .0) in
-    (unchosen, never-chosen (after u (Event.slot bit)) bits (sound-after (Event.slot bit) sound) (rw (choosing-after u bit sound unchosen) (both .1)))
+    let next = after u (Event.slot bit) in
+    (unchosen, never-chosen next bits (sound-after (Event.slot bit) sound) (rw (choosing-after u bit sound unchosen) (both .1)))
   where
     not-true : (b : Bool) → not b ≡ true → b ≡ false
     not-true true e = sym e
     not-true false e = refl
 
-pub choosing-unoffered : (i j : List ℕ) (u : State) (bits : List Bool) → Sound u → Choosing u bits →
+pub choosing-carries-none : (i j : List ℕ) (u : State) (bits : List Bool) → Sound u → Choosing u bits →
     Always (λ v e. NoPassword i v e × NoPassword j v e) u (map Event.slot bits)
-choosing-unoffered i j u bits sound still = always-map (λ v e h. (by i v e h, by j v e h)) u (map Event.slot bits) (never-chosen u bits sound still)
+choosing-carries-none i j u bits sound still =
+    always-map (λ v e h. (by i v e h, by j v e h)) u (map Event.slot bits) (never-chosen u bits sound still)
   where
-    by : (image : List ℕ) (v : State) (e : Event) → OnSlots (λ w bit. isSelected (w .tag .exchange .select) ≡ false) v e → NoPassword image v e
+    by : (image : List ℕ) (v : State) (e : Event) → Unchosen v e → NoPassword image v e
     by image v (Event.slot bit) unchosen = λ field ends. absurd (true≢false (sym (ends .chosen) ∙ unchosen))
     by image v Event.reset unchosen = tt
     by image v (Event.tick reading) unchosen = tt

@@ -1,5 +1,6 @@
--- What an owner does to a tag that checks no passwords yet, each command after a reset and Skip: Write Scratchpad and Copy, Clear; and at last
--- a Write Scratchpad from 0000h on and a reset, after which the tag waits with a known exchange. Assumes nothing.
+-- What an owner does to a tag that checks no passwords yet, each command after a reset and Skip: he stores by Write Scratchpad
+-- and Copy, and clears; then a Write Scratchpad from 0000h on and a reset leave the tag waiting, with a known exchange.
+-- Assumes nothing.
 use mathlib.Core.Path.{_≡_, refl, ap, _∙_}
 use mathlib.Core.Bool.{Bool, true, false}
 use mathlib.Core.List.{List, [], _∷_, _++_, map}
@@ -10,7 +11,7 @@ use Rattle.bits.specs.Bits.{bitsOf}
 use Rattle.exchange.specs.declared.Exchange.{Exchange}
 use Rattle.exchange.specs.Exchange as exchange
 use Rattle.exchange.specs.Runs.{Way, waySlots, wayMark}
-use Rattle.image.specs.Answers.{checked}
+use Rattle.image.specs.Answers.{checked, mayCopy}
 use Rattle.image.specs.Answers.Laws.{control-open, copy-idle}
 use Rattle.image.specs.Fields.Laws.{Bytes}
 use Rattle.image.specs.Registers.{mip}
@@ -25,40 +26,28 @@ use Rattle.select.specs.Select.{keeps}
 use Rattle.tag.specs.Tag.{resetTag}
 use Rattle.promises.specs.Demand3.{JustReset}
 use Rattle.promises.specs.Line.Controlling.{controlSlots, clears}
-use Rattle.promises.specs.Line.Pad.{reached-pad}
+use Rattle.promises.specs.Line.Pad.{padOf, reached-pad}
 use Rattle.promises.specs.Line.Slots.{numberOf}
 use Rattle.promises.specs.Line.Storing.{writeSlots, writes-scratchpad, copySlots, writes-and-copies}
 use Rattle.promises.specs.Runs.{State, Event, after, Ran, run, Reached, Always}
-use Rattle.promises.specs.Runs.Laws.{Valid, reached-run, reached-sound, number-run, reset-happens}
+use Rattle.promises.specs.Runs.Laws.{Sound, Valid, reached-run, reached-sound, number-run, reset-happens}
 
 -- ---- a reset, Skip, and a command's slots
 
 abbrev pub skipping : List Bool → List Event
 skipping bits = Event.reset ∷ map Event.slot (bitsOf 8 0xCC ++ bits)
 
-abbrev pub told : State → List Bool → State
+abbrev told : State → List Bool → State
 told s bits = run s (skipping bits) .state
 
-valid-slots : (s : State) (bits : List Bool) → Always (λ u e. Valid e) s (map Event.slot bits)
-unfolding Always
-valid-slots s [] = tt
-valid-slots s (bit ∷ bits) = (tt, valid-slots (after s (Event.slot bit)) bits)
-
+-- all of them are accepted
 told-reached : {s : State} (bits : List Bool) → Reached s → Reached (told s bits)
 unfolding Always
-told-reached {s} bits r = reached-run (skipping bits) r (tt, valid-slots (after s Event.reset) (bitsOf 8 0xCC ++ bits))
-
--- ---- what is known of the tag
-
-pub record Owned (number : ℕ) (image : List ℕ) (s : State) : Type 0 where
-  pub reached : Reached s
-  pub numbered : numberOf s ≡ number
-  pub holds : s .image ≡ image
-
-told-owned : {number : ℕ} {image after : List ℕ} {s : State} (bits : List Bool) → Owned number image s → told s bits .image ≡ after →
-    Owned number after (told s bits)
-told-owned bits o e =
-    record { reached = told-reached bits (o .reached); numbered = number-run (skipping bits) (reached-sound (o .reached)) ∙ o .numbered; holds = e }
+told-reached {s} bits r = reached-run (skipping bits) r (tt, valid (after s Event.reset) (bitsOf 8 0xCC ++ bits))
+  where
+    valid : (s : State) (bits : List Bool) → Always (λ u e. Valid e) s (map Event.slot bits)
+    valid s [] = tt
+    valid s (bit ∷ bits) = (tt, valid (after s (Event.slot bit)) bits)
 
 -- ---- the commands; any field passes
 
@@ -68,10 +57,27 @@ stored s address bytes = told (told s (writeSlots address bytes)) (copySlots add
 abbrev pub clearedBy : State → State
 clearedBy s = told s (controlSlots Control.Clear 0 0xFF)
 
--- a command that leaves the tag waiting after a reset, with these bytes in its scratchpad
 abbrev pub ready : State → List ℕ → State
 ready s bytes = after (told s (writeSlots 0x0000 bytes)) Event.reset
 
+-- ---- what is known of the tag
+
+pub record Owned (number : ℕ) (image : List ℕ) (s : State) : Type 0 where
+  pub reached : Reached s
+  pub numbered : numberOf s ≡ number
+  pub holds : s .image ≡ image
+
+-- after a command that leaves this image
+told-owned : {number : ℕ} {image new : List ℕ} {s : State} (bits : List Bool) → Owned number image s → told s bits .image ≡ new →
+    Owned number new (told s bits)
+told-owned bits o e =
+    record {
+      reached = told-reached bits (o .reached);
+      numbered = number-run (skipping bits) (reached-sound (o .reached)) ∙ o .numbered;
+      holds = e;
+    }
+
+-- the exchange of a tag that waits with these bytes in its scratchpad
 abbrev pub waiting : ℕ → List ℕ → Exchange
 waiting number bytes =
     record {
@@ -81,44 +87,50 @@ waiting number bytes =
       bus = clearBus (Stage.Hears Hearing.Command);
     }
 
--- what is known of it then
 pub record Ready (number : ℕ) (image bytes : List ℕ) (s : State) : Type 0 where
   pub reset : JustReset s
   pub holds : s .image ≡ image
-  pub exchange : s .tag .exchange ≡ waiting number bytes
+  pub waits : s .tag .exchange ≡ waiting number bytes
 
 module _ {number : ℕ} {image : List ℕ} {s : State} (o : Owned number image s) where
-  written-owned : (address : ℕ) (bytes : List ℕ) → address < 65536 → address % 32 + length bytes ≡ 32 → Bytes bytes →
+  sound : Sound s
+  sound = reached-sound (o .reached)
+
+  long : length (padOf s) ≡ 32
+  long = reached-pad (o .reached)
+
+  written-owned : (address : ℕ) (bytes : List ℕ) → address < 0x0280 → address % 32 + length bytes ≡ 32 → Bytes bytes →
       Owned number image (told s (writeSlots address bytes))
   unfolding waySlots
   written-owned address bytes low whole small =
-      told-owned (writeSlots address bytes) o
-      (ap (λ (r : Ran). r .state .image)
-      (writes-scratchpad s (reached-sound (o .reached)) Way.skip address bytes (reached-pad (o .reached)) low whole small) ∙ o .holds)
+      let wrote = writes-scratchpad s sound Way.skip address bytes long (omega arith) whole small in
+      told-owned (writeSlots address bytes) o (ap (λ (r : Ran). r .state .image) wrote ∙ o .holds)
 
-  pub stored-owned : (address : ℕ) (bytes : List ℕ) → address < 0x0280 → address % 32 + length bytes ≡ 32 → Bytes bytes →
-      checked image ≡ false → mip image ≡ false → Owned number (storedRun image address bytes) (stored s address bytes)
-  unfolding waySlots
-  stored-owned address bytes low whole small off idle =
-      told-owned (copySlots address 0x1F 0 0) (written-owned address bytes (omega arith) whole small)
-      (writes-and-copies s (reached-sound (o .reached)) Way.skip Way.skip address 0 0 bytes (reached-pad (o .reached)) (omega arith) whole small (omega arith)
-      (rw (o .holds) (copy-idle image 0 address low idle ∙ control-open image 0 off)) .1
-      ∙ ap (λ (i : List ℕ). storedRun i address bytes) (o .holds))
+  module _ (off : checked image ≡ false) where
+    pub stored-owned : (address : ℕ) (bytes : List ℕ) → address < 0x0280 → address % 32 + length bytes ≡ 32 → Bytes bytes →
+        mip image ≡ false → Owned number (storedRun image address bytes) (stored s address bytes)
+    unfolding waySlots
+    stored-owned address bytes low whole small idle =
+        let may : mayCopy (s .image) 0 address ≡ true =
+        rw (o .holds) (copy-idle image 0 address low idle ∙ control-open image 0 off) in
+        told-owned (copySlots address 0x1F 0 0) (written-owned address bytes low whole small)
+        (writes-and-copies s sound Way.skip Way.skip address 0 0 bytes long (omega arith) whole small (omega arith) may .1
+        ∙ ap (λ (i : List ℕ). storedRun i address bytes) (o .holds))
 
-  pub cleared-owned : checked image ≡ false → Owned number (cleared image) (clearedBy s)
-  unfolding waySlots
-  cleared-owned off =
-      told-owned (controlSlots Control.Clear 0 0xFF) o
-      (clears s (reached-sound (o .reached)) Way.skip 0 (omega arith) (rw (o .holds) (control-open image 0 off)) .1 ∙ ap cleared (o .holds))
+    pub cleared-owned : Owned number (cleared image) (clearedBy s)
+    unfolding waySlots
+    cleared-owned =
+        told-owned (controlSlots Control.Clear 0 0xFF) o
+        (clears s sound Way.skip 0 (omega arith) (rw (o .holds) (control-open image 0 off)) .1 ∙ ap cleared (o .holds))
 
   pub is-ready : (bytes : List ℕ) → length bytes ≡ 32 → Bytes bytes → Ready number image bytes (ready s bytes)
   unfolding after resetTag waySlots wayMark
   is-ready bytes whole small =
       let written = written-owned 0x0000 bytes (omega arith) (omega arith) small in
       let happens = reset-happens (reached-sound (written .reached)) in
-      let wrote = writes-scratchpad s (reached-sound (o .reached)) Way.skip 0x0000 bytes (reached-pad (o .reached)) (omega arith) (omega arith) small in
+      let wrote = writes-scratchpad s sound Way.skip 0x0000 bytes long (omega arith) (omega arith) small in
       record {
         reset = record { before = told s (writeSlots 0x0000 bytes); reached = written .reached; reset = refl };
         holds = rw happens (written .holds);
-        exchange = rw happens (ap (λ (r : Ran). exchange.afterReset (r .state .tag .exchange)) wrote ∙ rw (o .numbered));
+        waits = rw happens (ap (λ (r : Ran). exchange.afterReset (r .state .tag .exchange)) wrote ∙ rw (o .numbered));
       }

@@ -1,94 +1,85 @@
--- The three statements of Needed, each of the two tags of Tags. Assumes nothing.
+-- The three statements of Needed, each by the two tags of Tags. Assumes nothing.
 use mathlib.Core.Path.{_≡_, refl, sym, ap, _∙_}
 use mathlib.Core.Bool.{Bool, true, false, false≢true, true≢false}
 use mathlib.Core.List.{List, [], _∷_, _++_, map, flatMap}
 use mathlib.Core.Logic.{_≢_}
 use Prim.Native.Nat.{ℕ}
 use native.Mathlib.Omega.{arith}
-use borrow.Author.Tests.{eqb-false, eq-eqb}
-use lib.Dec.{eqb}
+use borrow.Author.Tests.{eq-eqb}
 use lib.ListN.{getD}
 use Rattle.bits.specs.Bits.{bitOf, bitsOf, shiftIn}
 use Rattle.exchange.specs.declared.Exchange.{Exchange}
 use Rattle.exchange.specs.Exchange.{asks, slotOf}
-use Rattle.image.specs.Answers.{alarmed, checked, mayRead}
+use Rattle.image.specs.Answers.{checked, mayRead}
 use Rattle.image.specs.Answers.Laws.{read-refused, read-right}
 use Rattle.image.specs.Fields.{wordAt}
 use Rattle.image.specs.Registers.{readPassword, fullPassword}
 use Rattle.image.specs.Sent.Laws.{sent-user}
-use Rattle.select.specs.Runs as select-runs
+use Rattle.select.specs.Runs as runs
 use Rattle.select.specs.Select as select
-use Rattle.promises.specs.Demand3.{Alike, Begins}
+use Rattle.promises.specs.Demand3.{Alike, NoPassword, AlarmsAgree, Begins, NoneCarried}
 use Rattle.promises.specs.Demand3.Needed.{PremisesMet, FieldsNeeded, AlarmsNeeded}
-use Rattle.promises.specs.Demand3.Needed.Alarms.{search, Choosing, choosing-line, choosing-unoffered}
+use Rattle.promises.specs.Demand3.Needed.Alarms.{search, Choosing, choosing-line, choosing-carries-none}
 use Rattle.promises.specs.Demand3.Needed.Fields.{reader, reader-differs, skipping-unconditional}
-use Rattle.promises.specs.Demand3.Needed.Keys.{HasKeys}
-use Rattle.promises.specs.Demand3.Needed.Owner.{skipping, waiting, Ready}
+use Rattle.promises.specs.Demand3.Needed.Keys.{none-of-keys}
+use Rattle.promises.specs.Demand3.Needed.Owner.{skipping, waiting}
 use Rattle.promises.specs.Demand3.Needed.Stranger.{wrong, stranger, alike-each, stranger-alike, stranger-harmless, stranger-tried}
-use Rattle.promises.specs.Demand3.Needed.Tags
-use Rattle.promises.specs.Demand3.Needed.Walk.{harmlessAll, asksHarmless, harmless, denied, unconditional, unconditional-agree, denies-always, harmless-premises, Unconditional}
+use Rattle.promises.specs.Demand3.Needed.Tags.{firstKeys, pad, number, Prepared, first, first-prepared, first-user, second, second-prepared, second-user}
+use Rattle.promises.specs.Demand3.Needed.Walk.{harmless, asksHarmless, denied, harmlessAll, Unconditional, harmless-unconditional, NoneOf, denies-run, unconditional-agree, harmless-premises}
+use Rattle.promises.specs.Demand3.Proof.{demand3}
 use Rattle.promises.specs.Demand3.Reset.{reset-sound, begins-guarded}
 use Rattle.promises.specs.Line.ReadRun.{readSlots}
 use Rattle.promises.specs.Runs.{State, Event, after, readingOf, run, ticksOf, Always, Together}
-use Rattle.promises.specs.Runs.Laws.{always-map, together-with}
+use Rattle.promises.specs.Runs.Laws.{always-map}
 
 -- ---- premises 1 to 3
 
-module _ (E F : List Event) (alike : Together (λ u e v f. Alike e f) Tags.first E Tags.second F) where
-  same : Tags.first .tag .exchange ≡ Tags.second .tag .exchange
-  same = Tags.first-ready .exchange ∙ sym (Tags.second-ready .exchange)
+begins : (E F : List Event) → Together (λ u e v f. Alike e f) first E second F → Begins first second E F
+begins E F alike =
+    let same = first-prepared .waits ∙ sym (second-prepared .waits) in
+    record {
+      reset-s = first-prepared .reset;
+      reset-t = second-prepared .reset;
+      checked-s = first-prepared .keyed .control;
+      checked-t = second-prepared .keyed .control;
+      number = ap (λ (x : Exchange). x .number) same;
+      held = ap (λ (x : Exchange). x .held) same;
+      mark = ap (λ (x : Exchange). x .select .mark) same;
+      alike = alike;
+    }
 
-  begins : Begins Tags.first Tags.second E F
-  begins =
-      record {
-        reset-s = Tags.first-ready .reset;
-        reset-t = Tags.second-ready .reset;
-        checked-s = rw (Tags.first-ready .holds) (Tags.first-keys .control);
-        checked-t = rw (Tags.second-ready .holds) (Tags.second-keys .control);
-        number = ap (λ (x : Exchange). x .number) same;
-        held = ap (λ (x : Exchange). x .held) same;
-        mark = ap (λ (x : Exchange). x .select .mark) same;
-        alike = alike;
-      }
+alike-slots : (bits : List Bool) (s t : State) → Together (λ u e v f. Alike e f) s (map Event.slot bits) t (map Event.slot bits)
+alike-slots bits s t = alike-each Event.slot Event.slot Alike.slots s t bits
 
 -- ---- the passwords
 
--- a field that is neither of a tag's passwords
-others : {number : ℕ} {keys image pad : List ℕ} {u : State} (field : ℕ) → Ready number image pad u → HasKeys keys image →
-    eqb field (wordAt keys 1 8) ≡ false → eqb field (wordAt keys 9 8) ≡ false →
-    (field ≢ readPassword (u .image)) × (field ≢ fullPassword (u .image))
-others {keys} field waits k r f =
-    rw (waits .holds, k .read, k .full) (eqb-false field (wordAt keys 1 8) r, eqb-false field (wordAt keys 9 8) f)
-
-wrong-first : (wrong ≢ readPassword (Tags.first .image)) × (wrong ≢ fullPassword (Tags.first .image))
+wrong-first : NoneOf wrong (first .image)
 unfolding wordAt
-wrong-first = others wrong Tags.first-ready Tags.first-keys refl refl
+wrong-first = none-of-keys wrong (first-prepared .keyed) refl refl
 
-wrong-second : (wrong ≢ readPassword (Tags.second .image)) × (wrong ≢ fullPassword (Tags.second .image))
+wrong-second : NoneOf wrong (second .image)
 unfolding wordAt
-wrong-second = others wrong Tags.second-ready Tags.second-keys refl refl
+wrong-second = none-of-keys wrong (second-prepared .keyed) refl refl
 
--- the first tag's read password, and the two of its full ones
+-- the first's read password
 abbrev right : ℕ
 right = 0x1111111111111111
 
-right-first : right ≡ readPassword (Tags.first .image)
+right-first : right ≡ readPassword (first .image)
 unfolding wordAt
-right-first = rw (Tags.first-ready .holds) (sym (Tags.first-keys .read))
+right-first = sym (first-prepared .keyed .read)
 
-right-second : (right ≢ readPassword (Tags.second .image)) × (right ≢ fullPassword (Tags.second .image))
+right-second : NoneOf right (second .image)
 unfolding wordAt
-right-second = others right Tags.second-ready Tags.second-keys refl refl
+right-second = none-of-keys right (second-prepared .keyed) refl refl
 
-full-differs : fullPassword (Tags.first .image) ≢ fullPassword (Tags.second .image)
+full-differs : fullPassword (first .image) ≢ fullPassword (second .image)
 unfolding wordAt
-full-differs =
-    rw (Tags.first-ready .holds, Tags.first-keys .full)
-    (others (wordAt (Tags.keys 0x11 0x22) 9 8) Tags.second-ready Tags.second-keys refl refl .1)
+full-differs = rw (first-prepared .keyed .full) (none-of-keys (wordAt firstKeys 9 8) (second-prepared .keyed) refl refl .1)
 
 -- ---- (i)
 
--- the reading of the first event
+-- the reading of the first tick
 abbrev firstReading : List Event → ℕ
 firstReading [] = 0
 firstReading (e ∷ es) = readingOf e
@@ -99,104 +90,121 @@ readings-differ e = let two : _≡_ {A = ℕ} 672 1391 = ap firstReading e in ab
 
 pub premises-met : PremisesMet
 premises-met =
-    let alike = stranger-alike 672 1391 (omega arith) (omega arith) Tags.first Tags.second in
-    let begun = begins (stranger 672) (stranger 1391) alike in
+    let begun = begins (stranger 672) (stranger 1391) (stranger-alike 672 1391 (omega arith) (omega arith) first second) in
     record {
-      s = Tags.first;
-      t = Tags.second;
+      s = first;
+      t = second;
       E = stranger 672;
       F = stranger 1391;
       premises =
-          harmless-premises Tags.first Tags.second (stranger 672) (stranger 1391) begun wrong
-          (wrong-first .0) (wrong-first .1) (wrong-second .0) (wrong-second .1)
-          (rw (Tags.first-ready .exchange) (stranger-harmless Tags.number 672 Tags.pad))
-          (rw (Tags.second-ready .exchange) (stranger-harmless Tags.number 1391 Tags.pad));
+          harmless-premises first second (stranger 672) (stranger 1391) wrong begun wrong-first wrong-second
+          (rw (first-prepared .waits) (stranger-harmless number 672 pad))
+          (rw (second-prepared .waits) (stranger-harmless number 1391 pad));
       read = rw (← right-first) (right-second .0);
       full = full-differs;
-      memory = λ e.
-          let one : getD (Tags.first .image) 0 0 ≡ 0 = rw (Tags.first-ready .holds) (Tags.first-zero 0 (omega arith) tt) in
-          let two : getD (Tags.second .image) 0 0 ≡ 0x5A = rw (Tags.second-ready .holds) Tags.second-secret in
-          omega arith;
-      flags = λ e. true≢false (sym (rw (Tags.first-ready .holds) Tags.first-alarmed) ∙ e ∙ rw (Tags.second-ready .holds) Tags.second-silent);
+      memory = λ e. omega (arith, first-user 0x0000 (omega arith), second-user);
+      flags = λ e. true≢false (sym (first-prepared .flags) ∙ e ∙ second-prepared .flags);
       readings = readings-differ;
       field = wrong;
       tried-s =
-          stranger-tried Tags.number 672 Tags.firstImage Tags.pad Tags.first Tags.first-ready (begun .checked-s)
-          (rw (Tags.first-ready .holds) Tags.first-idle) (wrong-first .0) (wrong-first .1);
+          stranger-tried number 672 pad first (first-prepared .reset) (first-prepared .waits)
+          (first-prepared .keyed .control) (first-prepared .idle) wrong-first;
       tried-t =
-          stranger-tried Tags.number 1391 Tags.secondImage Tags.pad Tags.second Tags.second-ready (begun .checked-t)
-          (rw (Tags.second-ready .holds) Tags.second-idle) (wrong-second .0) (wrong-second .1);
+          stranger-tried number 1391 pad second (second-prepared .reset) (second-prepared .waits)
+          (second-prepared .keyed .control) (second-prepared .idle) wrong-second;
     }
 
 -- ---- (ii)
 
-alike-slots : (bits : List Bool) (s t : State) → Together (λ u e v f. Alike e f) s (map Event.slot bits) t (map Event.slot bits)
-alike-slots bits s t = alike-each Event.slot Event.slot Alike.slots s t bits
+abbrev reads : List Event
+reads = reader right
 
-skip-unconditional : Always Unconditional Tags.first (skipping [])
-unfolding harmlessAll asksHarmless harmless denied asks slotOf select.slotOf select.slotAt select.commandBit select.romCommand select.isChosen select.endsCommand bitsOf bitOf shiftIn
+reads-alike : Together (λ u e v f. Alike e f) first reads second reads
+unfolding Together
+reads-alike =
+    (Alike.resets, alike-slots (bitsOf 8 0xCC ++ readSlots 0x001F right) (after first Event.reset) (after second Event.reset))
+
+skip-unconditional : Always Unconditional first (skipping [])
+unfolding harmlessAll asksHarmless harmless denied asks slotOf select.slotOf select.slotAt select.commandBit select.romCommand
+    select.isChosen select.endsCommand bitsOf bitOf shiftIn
 skip-unconditional =
-    always-map (unconditional wrong) Tags.first (skipping [])
-    (denies-always (Tags.first .image) false wrong (wrong-first .0) (wrong-first .1) Tags.first (skipping [])
-    (begins-guarded (Tags.first-ready .reset) (rw (Tags.first-ready .holds) (Tags.first-keys .control)), rw (Tags.first-ready .holds) Tags.first-idle)
-    refl)
+    let guards = begins-guarded (first-prepared .reset) (first-prepared .keyed .control) in
+    always-map (harmless-unconditional wrong) first (skipping [])
+    (denies-run (first .image) false wrong wrong-first first (skipping []) (guards, first-prepared .idle) refl .0)
+
+reads-agree : Together AlarmsAgree first reads second reads
+reads-agree =
+    let sound = reset-sound (first-prepared .reset) in
+    let never = skipping-unconditional first (readSlots 0x001F right) sound skip-unconditional in
+    unconditional-agree first reads second reads never reads-alike
+
+reads-differ : run first reads .line ≢ run second reads .line
+unfolding checked
+reads-differ =
+    let may : mayRead (first .image) right ≡ true = rw right-first (read-right (first .image)) in
+    let zero = sent-user (first .image) (first .tag .code) 0x001F (omega arith) ∙ first-user 0x001F (omega arith) in
+    let on : checked (second .image) ≡ true = eq-eqb _ 0xAA (second-prepared .keyed .control) in
+    reader-differs first second (reset-sound (first-prepared .reset)) (reset-sound (second-prepared .reset)) right (omega arith)
+    may zero (read-refused (second .image) right on (right-second .0) (right-second .1))
 
 pub fields-needed : FieldsNeeded
-unfolding Together checked
 fields-needed =
-    let sound = reset-sound (Tags.first-ready .reset) in
-    let E = reader right in
-    let alike : Together (λ u e v f. Alike e f) Tags.first E Tags.second E =
-    (Alike.resets, alike-slots (bitsOf 8 0xCC ++ readSlots 0x001F right) (after Tags.first Event.reset) (after Tags.second Event.reset)) in
-    let begun = begins E E alike in
+    let begun = begins reads reads reads-alike in
     record {
-      s = Tags.first;
-      t = Tags.second;
-      E = E;
-      F = E;
+      s = first;
+      t = second;
+      E = reads;
+      F = reads;
       begins = begun;
-      alarms =
-          unconditional-agree Tags.first E Tags.second E
-          (skipping-unconditional Tags.first (readSlots 0x001F right) sound skip-unconditional) alike;
-      differ =
-          reader-differs Tags.first Tags.second sound (reset-sound (Tags.second-ready .reset)) right (omega arith)
-          (rw right-first (read-right (Tags.first .image)))
-          (read-refused (Tags.second .image) right (eq-eqb _ 0xAA (begun .checked-t)) (right-second .0) (right-second .1))
-          (sent-user (Tags.first .image) (Tags.first .tag .code) 0x001F (omega arith) ∙ rw (Tags.first-ready .holds) (Tags.first-zero 0x001F (omega arith) tt));
+      alarms = reads-agree;
+      carried = λ none. reads-differ (demand3 first second reads reads (record { begins = begun; fields = none; alarms = reads-agree }) .line);
+      differ = reads-differ;
     }
 
 -- ---- (iii)
 
-module _ {image : List ℕ} {u : State} (waits : Ready Tags.number image Tags.pad u) (alarm : Bool) (flags : alarmed image ≡ alarm) where
+abbrev searches : List Event
+searches = map Event.slot search
+
+module _ {keys : List ℕ} {alarm : Bool} {u : State} (p : Prepared keys alarm u) where
   search-chooses : Choosing u search
-  unfolding select-runs.stillChoosing select.slotOf select.slotAt select.commandBit select.romCommand select.isChosen bitsOf bitOf shiftIn
-  search-chooses = rw (waits .exchange, waits .holds, flags) (by alarm)
+  unfolding runs.stillChoosing select.slotOf select.slotAt select.commandBit select.romCommand select.isChosen bitsOf bitOf
+      shiftIn
+  search-chooses = rw (p .waits, p .flags) (by alarm)
     where
-      by : (b : Bool) → select-runs.stillChoosing (waiting Tags.number Tags.pad .select) Tags.number b search ≡ true
+      by : (b : Bool) → runs.stillChoosing (waiting number pad .select) number b search ≡ true
       by true = refl
       by false = refl
 
-  search-line : run u (map Event.slot search) .line ≡ select-runs.run (waiting Tags.number Tags.pad .select) Tags.number alarm search .line
-  search-line = choosing-line u search (reset-sound (waits .reset)) search-chooses ∙ rw (waits .exchange, waits .holds, flags)
+  search-line : run u searches .line ≡ runs.run (waiting number pad .select) number alarm search .line
+  search-line =
+      choosing-line u search (reset-sound (p .reset)) search-chooses
+      ∙ rw (p .waits) (ap (λ (b : Bool). runs.run (waiting number pad .select) number b search .line) (p .flags))
+
+  search-carries-none : (i j : List ℕ) → Always (λ v e. NoPassword i v e × NoPassword j v e) u searches
+  search-carries-none i j = choosing-carries-none i j u search (reset-sound (p .reset)) search-chooses
+
+-- the tenth bit is the complement of the number's first, or 1
+searches-differ : run first searches .line ≢ run second searches .line
+unfolding runs.run select.slotOf select.slotAt select.commandBit select.romCommand bitsOf bitOf shiftIn
+searches-differ same =
+    let lines = sym (search-line first-prepared) ∙ same ∙ search-line second-prepared in
+    false≢true (ap (λ (line : List Bool). getD line 9 true) lines)
 
 pub alarms-needed : AlarmsNeeded
-unfolding select-runs.run select.slotOf select.slotAt select.commandBit select.romCommand bitsOf bitOf shiftIn
 alarms-needed =
-    let E = map Event.slot search in
-    let one = search-chooses Tags.first-ready true Tags.first-alarmed in
-    let two = search-chooses Tags.second-ready false Tags.second-silent in
-    let sound-one = reset-sound (Tags.first-ready .reset) in
-    let sound-two = reset-sound (Tags.second-ready .reset) in
+    let begun = begins searches searches (alike-slots search first second) in
+    let i = first .image in
+    let j = second .image in
+    let fields : NoneCarried first second searches searches =
+    (search-carries-none first-prepared i j, search-carries-none second-prepared i j) in
     record {
-      s = Tags.first;
-      t = Tags.second;
-      E = E;
-      F = E;
-      begins = begins E E (alike-slots search Tags.first Tags.second);
-      fields-s = choosing-unoffered (Tags.first .image) (Tags.second .image) Tags.first search sound-one one;
-      fields-t = choosing-unoffered (Tags.first .image) (Tags.second .image) Tags.second search sound-two two;
-      differ = λ same.
-          false≢true
-          (ap (λ (l : List Bool). getD l 9 true)
-          (sym (search-line Tags.first-ready true Tags.first-alarmed) ∙ same ∙ search-line Tags.second-ready false Tags.second-silent));
+      s = first;
+      t = second;
+      E = searches;
+      F = searches;
+      begins = begun;
+      fields = fields;
+      disagree = λ agree. searches-differ (demand3 first second searches searches (record { begins = begun; fields = fields; alarms = agree }) .line);
+      differ = searches-differ;
     }
