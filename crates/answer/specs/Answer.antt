@@ -1,5 +1,7 @@
--- The numbers of the answers (document 01, the table of "Events and what they return"). Assumes nothing.
-use Prim.Native.Nat.{ℕ}
+-- The numbers of the answers (document 01, the table of "Events and what they return"), and what a refusal prints ("What is
+-- built"). Assumes nothing.
+use mathlib.Core.List.{List, [], _∷_}
+use Prim.Native.Nat.{ℕ, _+_, _/_, _%_}
 use Rattle.answer.specs.declared.Answer.{Answer}
 use Rattle.answer.specs.declared.Answer.the-variants.{Accepted, EventCode, Reading, ImageLength, RomNumber, Configuration, RecordRange, DumpForm, LineCrc, LinePage, Cleared, Counts, Places}
 
@@ -17,3 +19,7 @@ answerNumber LinePage = 9
 answerNumber Cleared = 10
 answerNumber Counts = 11
 answerNumber Places = 12
+
+-- "R, the number in two decimal digits, a line feed"
+unfoldable pub refusalText : ℕ → List ℕ
+refusalText number = 0x52 ∷ (0x30 + number / 10) ∷ (0x30 + number % 10) ∷ 0x0A ∷ []

@@ -1,6 +1,6 @@
 // What every call of the tag and of the dock answers: accepted, or why not. One list for both, in the order of document 01's table.
 ghost use mathlib.Core.Path.{_≡_};
-ghost use Rattle.answer.specs.Answer.{answerNumber};
+ghost use Rattle.answer.specs.Answer.{answerNumber, refusalText};
 
 pub enum Answer {
     Accepted,
@@ -49,4 +49,11 @@ pub fn number(answer: Answer) -> u8
         Answer::Counts => 11,
         Answer::Places => 12,
     }
+}
+
+// What a refusal prints: R, its number in two decimal digits, and a line feed.
+pub fn refusal_text(number: u8) -> [u8; 4]
+    ensures { λ r. ⌜ r ≡ refusalText number ⌝ }
+{
+    [b'R', b'0' + number / 10, b'0' + number % 10, b'\n']
 }

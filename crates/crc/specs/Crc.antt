@@ -66,6 +66,12 @@ sentHigh r = 255 - r / 256 % 256
 unfoldable pub mask8 : ℕ
 mask8 = taps 8 (5 ∷ 4 ∷ 0 ∷ [])
 
+abbrev pub crc8Bit : ℕ → Bool → ℕ
+crc8Bit r b = crcBit mask8 r b
+
+abbrev pub crc8Byte : ℕ → ℕ → ℕ
+crc8Byte r byte = crcByte mask8 r byte
+
 -- of the first seven bytes of a registration number, whose bits are the number's, low bit first
 unfoldable pub crc8Of : ℕ → ℕ
 crc8Of number = crcBits mask8 0 (bitsOf 56 number)

@@ -1,27 +1,33 @@
-// CRC-8 and CRC-16 of the 1-Wire line, low bit first, taken bit by bit with one register step for both.
-// Every function answers any input.
+// CRC-8 and CRC-16 of the 1-Wire line, low bit first. Each polynomial has a step and a byte's loop of its own: with the
+// polynomial a constant in the loop, the compiler makes a table of it. Every function answers any input.
 ghost use mathlib.Core.Path.{_≡_};
-ghost use Rattle.bits.specs.Bits.{bitsOf};
-ghost use Rattle.crc.specs.Crc.{crcBit, crcBits, crc16Bit, crc16Byte, crc16Run, sentLow, sentHigh, crc8Of, goodCrc};
+ghost use Rattle.bits.specs.Bits.{bitOf};
+ghost use Rattle.crc.specs.Crc.{crc16Bit, crc16Byte, crc16Run, sentLow, sentHigh, crc8Bit, crc8Byte, crc8Of, goodCrc};
 
 // x^16+x^15+x^2+1 as a register's bits: low bit first, so the term 1 is its top bit, and x^16 is left out.
 const CRC16: u16 = 0xA001;
 
 // x^8+x^5+x^4+1 likewise, in a register of 8 bits.
-const CRC8: u16 = 0x8C;
+const CRC8: u8 = 0x8C;
 
 // The CRC-16 register with one more bit.
 pub fn crc16_bit(crc: u16, bit: bool) -> u16
     ensures { λ r. ⌜ r ≡ crc16Bit crc bit ⌝ }
 {
-    with_bit(CRC16, crc, bit)
+    crc16_low(crc, bit as u16)
 }
 
 // The CRC-16 register with one more byte, low bit first.
 pub fn crc16_byte(crc: u16, byte: u8) -> u16
     ensures { λ r. ⌜ r ≡ crc16Byte crc byte ⌝ }
 {
-    with_bits(CRC16, crc, byte as u64, 8)
+    let mut r = crc;
+    let mut rest = byte as u16;
+    for i in 0..8u8 {
+        r = crc16_low(r, rest);
+        rest = rest / 2;
+    }
+    r
 }
 
 // The CRC-16 register with all of these bytes, first to last.
@@ -53,7 +59,13 @@ pub fn sent_high(crc: u16) -> u8
 pub fn crc8(number: u64) -> u8
     ensures { λ r. ⌜ r ≡ crc8Of number ⌝ }
 {
-    with_bits(CRC8, 0, number, 56) as u8
+    let mut r = 0;
+    let mut rest = number;
+    for i in 0..7u8 {
+        r = crc8_byte(r, (rest % 256) as u8);
+        rest = rest / 256;
+    }
+    r
 }
 
 // Is the eighth byte of a registration number the CRC-8 of the seven below?
@@ -63,27 +75,36 @@ pub fn good_crc(number: u64) -> bool
     crc8(number) as u64 == number >> 56
 }
 
-// A register with the low `count` bits of `number`, low bit first.
-fn with_bits(mask: u16, crc: u16, number: u64, count: u8) -> u16
-    ensures { λ r. ⌜ r ≡ crcBits mask crc (bitsOf count number) ⌝ }
+// The CRC-16 register with one more bit, the lowest of a number.
+fn crc16_low(crc: u16, number: u16) -> u16
+    ensures { λ r. ⌜ r ≡ crc16Bit crc (bitOf number 0) ⌝ }
+{
+    if (crc ^ number) % 2 == 1 {
+        CRC16 ^ (crc / 2)
+    } else {
+        crc / 2
+    }
+}
+
+// The CRC-8 register with one more byte, low bit first.
+fn crc8_byte(crc: u8, byte: u8) -> u8
+    ensures { λ r. ⌜ r ≡ crc8Byte crc byte ⌝ }
 {
     let mut r = crc;
-    let mut rest = number;
-    let mut left = count;
-    while left > 0 {
-        r = with_bit(mask, r, rest % 2 == 1);
+    let mut rest = byte;
+    for i in 0..8u8 {
+        r = crc8_low(r, rest);
         rest = rest / 2;
-        left -= 1;
     }
     r
 }
 
-// A register with one more bit.
-fn with_bit(mask: u16, crc: u16, bit: bool) -> u16
-    ensures { λ r. ⌜ r ≡ crcBit mask crc bit ⌝ }
+// The CRC-8 register with one more bit, the lowest of a number.
+fn crc8_low(crc: u8, number: u8) -> u8
+    ensures { λ r. ⌜ r ≡ crc8Bit crc (bitOf number 0) ⌝ }
 {
-    if (crc % 2 == 1) != bit {
-        mask ^ (crc / 2)
+    if (crc ^ number) % 2 == 1 {
+        CRC8 ^ (crc / 2)
     } else {
         crc / 2
     }

@@ -42,14 +42,6 @@ pub fn nibble(character: u8) -> u8
     }
 }
 
-// The digit of the low four bits of a byte.
-pub fn hex_digit(byte: u8) -> u8
-    ensures { λ r. ⌜ r ≡ hexDigit byte ⌝ }
-{
-    let low = byte % 16;
-    if low < 10 { 0x30 + low } else { 0x37 + low }
-}
-
 // Writes the last `digits` digits of a number from `at` on, high digit first; what falls past the end is left out.
 pub fn put_hex(out: &mut [u8], at: usize, value: u64, digits: usize)
     ensures { λ _. ⌜ now (out .exit) ≡ sets (now (out .entry)) at (hexOf digits value) ⌝ }
@@ -57,13 +49,14 @@ pub fn put_hex(out: &mut [u8], at: usize, value: u64, digits: usize)
     if out.len() <= at {
         return;
     }
+    let all = b"0123456789ABCDEF";
     let room = out.len() - at;
     let mut rest = value;
     let mut left = digits;
     while 0 < left {
         left -= 1;
         if left < room {
-            out[at + left] = hex_digit((rest % 16) as u8);
+            out[at + left] = all[(rest % 16) as usize];
         }
         rest /= 16;
     }

@@ -1,10 +1,10 @@
 -- What the playing program prints for a block of events, and what that leaves (document 01, "What is built"). Assumes nothing.
 use mathlib.Core.Bool.{Bool, true, false}
 use mathlib.Core.List.{List, [], _∷_, _++_}
-use Prim.Native.Nat.{ℕ, _+_, _*_, _/_, _%_}
+use Prim.Native.Nat.{ℕ, _+_, _*_}
 use lib.Dec.{eqb}
 use lib.ListN.{length}
-use Rattle.answer.specs.Answer.{answerNumber}
+use Rattle.answer.specs.Answer.{answerNumber, refusalText}
 use Rattle.bits.specs.Bits.{digit}
 use Rattle.bits.specs.Choose.{if_then_else_}
 use Rattle.tag.specs.declared.Tag.{Tag}
@@ -22,10 +22,6 @@ pub record Session : Type 0 where
 -- "prints 0 or 1 and a line feed for each"
 unfoldable pub bitText : Bool → List ℕ
 bitText line = (0x30 + digit line) ∷ 0x0A ∷ []
-
--- "R, the number in two decimal digits, a line feed"
-unfoldable pub refusalText : ℕ → List ℕ
-refusalText number = 0x52 ∷ (0x30 + number / 10) ∷ (0x30 + number % 10) ∷ 0x0A ∷ []
 
 -- what an event's answer prints: its line bit, or its refusal
 unfoldable pub answerText : ℕ → Bool → List ℕ

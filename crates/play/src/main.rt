@@ -10,7 +10,8 @@ ghost use Prim.Native.Nat.{_≤_, _+_, _*_, _%_};
 ghost use lib.ListN.{length};
 ghost use lib.Seq.{sets};
 ghost use Rattle.bits.specs.Bits.{digit};
-ghost use Rattle.play.specs.Play.{sessionOf, playedIn, answerText, bitText, refusalText};
+ghost use Rattle.play.specs.Play.{sessionOf, playedIn, answerText, bitText};
+ghost use Rattle.answer.specs.Answer.{refusalText};
 
 // What the whole groups of a block leave: the record, how much is to be printed, and whether every event was accepted.
 struct Played {
@@ -36,8 +37,7 @@ fn main() {
     let answer = made.answer;
     let refusal = answer::number(answer);
     if refusal != 0 {
-        let mut text = [0u8; 4];
-        put_refusal(&mut text, 0, refusal);
+        let text = answer::refusal_text(refusal);
         io::write_all(STDOUT_FILENO, &text);
         return;
     }
@@ -181,9 +181,10 @@ fn put_refusal(out: &mut [u8], at: usize, number: u8)
     ensures { λ _. ⌜ now (out .exit) ≡ sets (now (out .entry)) at (refusalText number) ⌝ }
 {
     if at < out.len() {
-        poke(out, at, b'R');
-        poke(out, at + 1, b'0' + number / 10);
-        poke(out, at + 2, b'0' + number % 10);
-        poke(out, at + 3, b'\n');
+        let text = answer::refusal_text(number);
+        poke(out, at, text[0]);
+        poke(out, at + 1, text[1]);
+        poke(out, at + 2, text[2]);
+        poke(out, at + 3, text[3]);
     }
 }

@@ -3,6 +3,7 @@
 use mathlib.Core.Path.{_≡_, sym, _∙_}
 use denote.Ref.{now}
 use Rattle.answer.proofs.number.Reads as answer-number
+use Rattle.answer.proofs.refusal_text.Reads as answer-refusal-text
 use Rattle.bits.proofs.bit.Reads as bits-bit
 use Rattle.bits.proofs.shift_in8.Reads as bits-shift-in8
 use Rattle.bits.proofs.shift_in64.Reads as bits-shift-in64
@@ -67,7 +68,6 @@ use Rattle.tag.proofs.accept.Reads as tag-accept
 use Rattle.tag.proofs.in_range.Reads as tag-in-range
 use Rattle.hex.proofs.pair_at.Reads as hex-pair-at
 use Rattle.hex.proofs.nibble.Reads as hex-nibble
-use Rattle.hex.proofs.hex_digit.Reads as hex-hex-digit
 use Rattle.hex.proofs.put_hex.Reads as hex-put-hex
 use Rattle.dump.proofs.check.Reads as dump-check
 use Rattle.dump.proofs.check_line.Reads as dump-check-line
@@ -78,8 +78,8 @@ use Rattle.dock.proofs.list_dump.Reads as dock-list-dump
 use Rattle.dock.proofs.seconds.Reads as dock-seconds
 use Rattle.dock.proofs.period.Reads as dock-period
 use Rattle.dock.proofs.temperature.Reads as dock-temperature
-use Rattle.dock.proofs.text.put_listing.Reads as dock-text-put-listing
-use Rattle.dock.proofs.text.refusal_line.Reads as dock-text-refusal-line
+use Rattle.dock.proofs.text.put_head.Reads as dock-text-put-head
+use Rattle.dock.proofs.text.put_entries.Reads as dock-text-put-entries
 
 -- A contract speaks of lifetimes, arguments, result and what is lent at exit. Two outcomes that it allows for the same arguments look
 -- the same, where `seen` is what a caller sees of an outcome: the result, and what stands behind each slice lent for writing.
@@ -98,6 +98,9 @@ pair p q i = (p i, q i)
 
 answer-number-sole : Sole answer-number.Post (λ k r e. r)
 answer-number-sole k a r s e f p q = p ∙ sym q
+
+answer-refusal-text-sole : Sole answer-refusal-text.Post (λ k r e. r)
+answer-refusal-text-sole k a r s e f p q = p ∙ sym q
 
 -- ---- bits
 
@@ -311,9 +314,6 @@ hex-pair-at-sole k a r s e f p q = p ∙ sym q
 hex-nibble-sole : Sole hex-nibble.Post (λ k r e. r)
 hex-nibble-sole k a r s e f p q = p ∙ sym q
 
-hex-hex-digit-sole : Sole hex-hex-digit.Post (λ k r e. r)
-hex-hex-digit-sole k a r s e f p q = p ∙ sym q
-
 hex-put-hex-sole : Sole hex-put-hex.Post (λ k r e. now (e .0))
 hex-put-hex-sole k a r s e f p q = p ∙ sym q
 
@@ -348,8 +348,8 @@ dock-period-sole k a r s e f p q = p ∙ sym q
 dock-temperature-sole : Sole dock-temperature.Post (λ k r e. r)
 dock-temperature-sole k a r s e f p q = p ∙ sym q
 
-dock-text-put-listing-sole : Sole dock-text-put-listing.Post (λ k r e. with r (now (e .0)))
-dock-text-put-listing-sole k a r s e f p q = pair (p .0 ∙ sym (q .0)) (p .1 ∙ sym (q .1))
+dock-text-put-head-sole : Sole dock-text-put-head.Post (λ k r e. now (e .0))
+dock-text-put-head-sole k a r s e f p q = p ∙ sym q
 
-dock-text-refusal-line-sole : Sole dock-text-refusal-line.Post (λ k r e. r)
-dock-text-refusal-line-sole k a r s e f p q = p ∙ sym q
+dock-text-put-entries-sole : Sole dock-text-put-entries.Post (λ k r e. with r (now (e .0)))
+dock-text-put-entries-sole k a r s e f p q = pair (p .0 ∙ sym (q .0)) (p .1 ∙ sym (q .1))

@@ -56,8 +56,7 @@ pub fn event(image: &mut [u8], tag: Tag, code: u8, reading: u16) -> Answered
         return refuse(Answer::RecordRange, tag);
     }
     match code {
-        0 => line::slot(image, tag, false),
-        1 => line::slot(image, tag, true),
+        0..=1 => line::slot(image, tag, code == 1),
         2 => reset(tag),
         3 => {
             if reading > 2047 {

@@ -1,15 +1,25 @@
--- `crc::crc16_bit` meets its contract: the polynomial's bits are A001h. Assumes nothing.
+-- `crc::crc16_bit` meets its contract: the lowest bit of a bit's number is the bit. Assumes nothing.
+use mathlib.Core.Path.{_≡_, refl}
+use mathlib.Core.Bool.{Bool, true, false}
 use borrow.Author.Needs.{needs}
-use Rattle.crc.specs.Crc.{taps, mask16}
+use mir.Val.{boolByte}
+use Rattle.bits.specs.Bits.{bitOf}
 use Rattle.crc.proofs.crc16_bit.Statement.{statement}
 use Rattle.crc.proofs.crc16_bit.Tie as tie
 
-with-bit-requires : tie.Need-with-bit-requires
-with-bit-requires c κs = search needs
+cast-crc16-low : tie.Need-cast-crc16-low
+cast-crc16-low c = search needs
+
+crc16-low-requires : tie.Need-crc16-low-requires
+crc16-low-requires c κs = search needs
+
+own-lowest : (b : Bool) → bitOf (boolByte b) 0 ≡ b
+unfolding bitOf
+own-lowest true = refl
+own-lowest false = refl
 
 returns : tie.Need-returns
-unfolding mask16 taps
-returns c = c .with-bit .ensures
+returns c = rw (own-lowest) at (c .crc16-low .ensures)
 
 pub crc16-bit-spec : {M : Type 1} → statement M
-crc16-bit-spec = tie.close (tie.spec with-bit-requires returns)
+crc16-bit-spec = tie.close (tie.spec cast-crc16-low crc16-low-requires returns)

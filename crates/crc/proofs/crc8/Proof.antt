@@ -1,20 +1,47 @@
--- `crc::crc8` meets its contract: the polynomial's bits are 8Ch, and the register stays a byte. Assumes nothing.
-use borrow.Author.Needs.{needs}
+-- `crc::crc8` meets its contract. The loop's invariant: the bytes that are left bring the register to the CRC of all seven. The
+-- measure is the number of bytes left. Assumes nothing.
+use mathlib.Core.Path.{_≡_, sym, _∙_}
+use Prim.Native.Nat.{_+_, _-_, _≤_}
 use native.Mathlib.Omega.{arith}
-use Rattle.crc.specs.Crc.{taps, mask8, crc8Of}
-use Rattle.crc.specs.Crc.Laws.{bits-lt}
+use borrow.Author.Needs.{needs}
+use Rattle.crc.specs.Crc.{crcRun, bytesOf, mask8, crc8Of}
+use Rattle.crc.specs.Crc.Laws.{number-more, number-none, crc8-bytes}
 use Rattle.crc.proofs.crc8.Statement.{statement}
 use Rattle.crc.proofs.crc8.Tie as tie
 
-with-bits-requires : tie.Need-with-bits-requires
-with-bits-requires c κs = search needs
+abbrev Inv-loop : tie.InvT-loop
+Inv-loop number r₀ rest₀ i₀ r rest i = (i ≤ 7) × (crcRun mask8 r (bytesOf (7 - i) rest) ≡ crc8Of number)
 
-cast-result : tie.Need-cast-result
-cast-result c = rw (c .with-bits .ensures) (record { fits = bits-lt 8 (omega arith) _ (omega arith) })
+abbrev μ-loop : tie.MeasureT-loop
+μ-loop number r₀ rest₀ i₀ r rest i = 7 - i
 
-returns : tie.Need-returns
-unfolding mask8 taps crc8Of
-returns c = c .with-bits .ensures
+loop-holds : tie.Need-loop-holds Inv-loop μ-loop
+loop-holds c = (omega arith, sym (crc8-bytes _))
+
+cast-crc8-byte : tie.Need-cast-crc8-byte Inv-loop μ-loop
+cast-crc8-byte c = search needs
+
+crc8-byte-requires : tie.Need-crc8-byte-requires Inv-loop μ-loop
+crc8-byte-requires c κs = tt
+
+add-i : tie.Need-add-i Inv-loop μ-loop
+add-i c = omega arith
+
+loop-less : tie.Need-loop-less Inv-loop μ-loop
+loop-less c = omega arith
+
+loop-again : tie.Need-loop-again Inv-loop μ-loop
+loop-again c =
+    let turn = c .before .before .loop in
+    let less : 7 - (turn .i + 1) ≡ 7 - turn .i - 1 = omega arith in
+    (omega arith, rw (c .crc8-byte .ensures, less, ← number-more _ (turn .r) (turn .rest) (7 - turn .i) (omega arith)) (turn .inv .1))
+
+returns : tie.Need-returns Inv-loop μ-loop
+returns c =
+    let end = c .before .loop in
+    sym (number-none _ (end .r) (end .rest) (7 - end .i) (omega arith)) ∙ end .inv .1
 
 pub crc8-spec : {M : Type 1} → statement M
-crc8-spec = tie.close (tie.spec with-bits-requires cast-result returns)
+crc8-spec =
+    tie.close
+    (tie.spec Inv-loop μ-loop loop-holds cast-crc8-byte crc8-byte-requires add-i loop-less loop-again returns)

@@ -9,7 +9,7 @@ use native.Mathlib.Numerals.{add-one}
 use native.Mathlib.Omega.{arith}
 use borrow.Author.Tests.{eqb-true, eq-eqb}
 use lib.Arith.{lt-one}
-use lib.Bits.{bitXor, xor-lt, xor-shr, xor-zero-r}
+use lib.Bits.{bitXor, xor-lt, xor-shr, xor-mod, xor-zero-r}
 use lib.Dec.{eqb}
 use lib.ListN.{length, getD, drop, drop-of-length-le}
 use lib.Pow.{pow-pos, pow-mono, split, mod-pow-add}
@@ -68,11 +68,42 @@ run-join mask r (x ∷ xs) ys = run-join mask (crcByte mask r x) xs ys
 
 -- ---- inputs taken one by one
 
--- k bits of a number: the lowest, and k - 1 of its half
-pub bits-more : (mask r n k : ℕ) → 0 < k → crcBits mask r (bitsOf k n) ≡ crcBits mask (crcBit mask r (eqb (n % 2) 1)) (bitsOf (k - 1) (n / 2))
+-- the lowest bit of a number, by the parity of the register and the number together
+parity : (a b : ℕ) → a < 2 → b < 2 → eqb (bitXor a b) 1 ≡ xor (eqb a 1) (eqb b 1)
+unfolding xor
+parity zero zero ha hb = refl
+parity zero (suc zero) ha hb = refl
+parity (suc zero) zero ha hb = refl
+parity (suc zero) (suc zero) ha hb = refl
+parity (suc (suc a)) b ha hb = absurd (not-suc-le-zero (le-of-suc-le-suc (le-of-suc-le-suc ha)))
+parity zero (suc (suc b)) ha hb = absurd (not-suc-le-zero (le-of-suc-le-suc (le-of-suc-le-suc hb)))
+parity (suc zero) (suc (suc b)) ha hb = absurd (not-suc-le-zero (le-of-suc-le-suc (le-of-suc-le-suc hb)))
+
+pub bit-parity : (mask r n : ℕ) → crcBit mask r (bitOf n 0) ≡ (if eqb (bitXor r n % 2) 1 then bitXor mask (r / 2) else r / 2)
+unfolding crcBit
+bit-parity mask r n = rw (bit-low r, bit-low n, xor-mod r n 1, parity (r % 2) (n % 2) (omega arith) (omega arith))
+
+-- What the loop over a byte's bits holds at its turn i: the bits that are left in `rest` bring its register to where all of
+-- the byte's bring the first.
+abbrev pub ByteSoFar : ℕ → ℕ → ℕ → ℕ → ℕ → ℕ → Type 0
+ByteSoFar mask first byte r rest i = (i ≤ 8) × (crcBits mask r (bitsOf (8 - i) rest) ≡ crcByte mask first byte)
+
+pub byte-begins : (mask r byte : ℕ) → ByteSoFar mask r byte r byte 0
+unfolding crcByte
+byte-begins mask r byte = (omega arith, refl)
+
+pub byte-turns : (mask first byte r rest i : ℕ) → i < 8 → ByteSoFar mask first byte r rest i
+    → ByteSoFar mask first byte (crcBit mask r (bitOf rest 0)) (rest / 2) (i + 1)
 unfolding crcBits bitsOf
-bits-more mask r n zero h = absurd (not-suc-le-zero h)
-bits-more mask r n (suc k) h = let less : suc k - 1 ≡ k = omega arith in rw (← bit-low n, less)
+byte-turns mask first byte r rest i h so =
+    let more : 8 - i ≡ suc (8 - (i + 1)) = omega arith in
+    (omega arith, rw more at (so .1))
+
+pub byte-ends : (mask first byte r rest i : ℕ) → 8 ≤ i → ByteSoFar mask first byte r rest i → r ≡ crcByte mask first byte
+unfolding crcBits bitsOf
+byte-ends mask first byte r rest i h so =
+    let none : 8 - i ≡ 0 = omega arith in
+    rw none at (so .1)
 
 pub bits-none : (mask r n k : ℕ) → k ≤ 0 → crcBits mask r (bitsOf k n) ≡ r
 unfolding crcBits bitsOf
@@ -87,6 +118,17 @@ run-more mask r bytes i h = rw (add-one, drop-cons bytes i 0)
 pub run-none : (mask r : ℕ) (bytes : List ℕ) (i : ℕ) → length bytes ≤ i → crcRun mask r (drop i bytes) ≡ r
 unfolding crcRun
 run-none mask r bytes i h = rw (drop-of-length-le bytes h)
+
+-- k bytes of a number: the lowest, and k - 1 of what is above it
+pub number-more : (mask r n k : ℕ) → 0 < k → crcRun mask r (bytesOf k n) ≡ crcRun mask (crcByte mask r (n % 256)) (bytesOf (k - 1) (n / 256))
+unfolding crcRun bytesOf
+number-more mask r n zero h = absurd (not-suc-le-zero h)
+number-more mask r n (suc k) h = let less : suc k - 1 ≡ k = omega arith in rw less
+
+pub number-none : (mask r n k : ℕ) → k ≤ 0 → crcRun mask r (bytesOf k n) ≡ r
+unfolding crcRun bytesOf
+number-none mask r n zero h = refl
+number-none mask r n (suc k) h = absurd (not-suc-le-zero h)
 
 -- bytes of a number are its bits
 pub run-number : (mask r n x : ℕ) → crcRun mask r (bytesOf n x) ≡ crcBits mask r (bitsOf (n * 8) x)

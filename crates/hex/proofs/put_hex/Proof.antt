@@ -7,21 +7,21 @@ use native.Mathlib.Omega.{arith}
 use lib.ListN.{length, set, length-set}
 use lib.Seq.{sets, set-out}
 use Rattle.hex.specs.Hex.{hexDigit, hexOf}
-use Rattle.hex.specs.Hex.Laws.{digit-mod}
+use Rattle.hex.specs.Hex.Laws.{digit-listed}
 use Rattle.hex.specs.Hex.Stores.{put-last, put-none, sets-past}
 use Rattle.hex.proofs.put_hex.Statement.{statement}
 use Rattle.hex.proofs.put_hex.Tie as tie
 
 abbrev Inv-loop : tie.InvT-loop
-Inv-loop out₀ at value digits room rest₀ left₀ out rest left =
+Inv-loop out₀ at value digits all room rest₀ left₀ out rest left =
     (length out ≡ length out₀) × (sets out at (hexOf left rest) ≡ sets out₀ at (hexOf digits value))
 
 abbrev μ-loop : tie.MeasureT-loop
-μ-loop out₀ at value digits room rest₀ left₀ out rest left = left
+μ-loop out₀ at value digits all room rest₀ left₀ out rest left = left
 
 returns : tie.Need-returns Inv-loop μ-loop
 returns c =
-    let a = c .before .before .args in
+    let a = c .before .args in
     sym (sets-past (a .out .now) (a .at) (hexOf (a .digits) (a .value)) (c .if1 .taken))
 
 sub-room : tie.Need-sub-room Inv-loop μ-loop
@@ -33,11 +33,8 @@ loop-holds c = (refl, refl)
 sub-left : tie.Need-sub-left Inv-loop μ-loop
 sub-left c = omega arith
 
-cast-hex-digit : tie.Need-cast-hex-digit Inv-loop μ-loop
-cast-hex-digit c = omega arith
-
-hex-digit-requires : tie.Need-hex-digit-requires Inv-loop μ-loop
-hex-digit-requires c κs = tt
+element-copy-out-out : tie.Need-element-copy-out-out Inv-loop μ-loop
+element-copy-out-out c = omega arith
 
 add-out : tie.Need-add-out Inv-loop μ-loop
 add-out c = omega arith
@@ -56,7 +53,7 @@ stored : (c : tie.Joined2 Inv-loop μ-loop)
     → c .if2 .out ≡ set (c .before .before .loop .out) (placeOf c) (hexDigit (c .before .before .loop .rest))
 stored c =
     let turn = c .before .before .loop in
-    ⊎-elim (λ w. w .2 ∙ ap (set (turn .out) (placeOf c)) (w .1 .ensures ∙ digit-mod (turn .rest)))
+    ⊎-elim (λ w. w .2 ∙ ap (set (turn .out) (placeOf c)) (digit-listed (turn .rest)))
     (λ w. w .1 ∙ sym (set-out (turn .out) (placeOf c) (hexDigit (turn .rest)) (omega (arith, w .0))))
     (c .if2 .came)
 
@@ -85,8 +82,7 @@ put-hex-spec =
     sub-room
     loop-holds
     sub-left
-    cast-hex-digit
-    hex-digit-requires
+    element-copy-out-out
     add-out
     slice-write-out
     loop-less

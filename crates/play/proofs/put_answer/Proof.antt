@@ -1,7 +1,8 @@
 -- `play::put_answer` meets its contract, line bit and refusal apart. Assumes nothing.
 use borrow.Author.Needs.{needs}
 use borrow.Author.Tests.{ne-eqb}
-use Rattle.play.specs.Play.{answerText, bitText, refusalText}
+use Rattle.answer.specs.Answer.{refusalText}
+use Rattle.play.specs.Play.{answerText, bitText}
 use Rattle.play.proofs.put_answer.Statement.{statement}
 use Rattle.play.proofs.put_answer.Tie as tie
 

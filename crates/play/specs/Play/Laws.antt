@@ -10,13 +10,13 @@ use borrow.Author.Tests.{eqb-true, eq-eqb}
 use lib.Dec.{eqb}
 use lib.ListN.{length, getD, set, drop, length-append}
 use lib.Seq.{sets, drop-cons, set-out}
-use Rattle.answer.specs.Answer.{answerNumber}
+use Rattle.answer.specs.Answer.{answerNumber, refusalText}
 use Rattle.bits.specs.Choose.{if_then_else_, either}
 use Rattle.tag.specs.declared.Answered.{Answered}
 use Rattle.tag.specs.declared.Tag.{Tag}
 use Rattle.tag.specs.Tag.{Outcome, step}
 use Rattle.play.specs.declared.Played.{Played}
-use Rattle.play.specs.Play.{Session, sessionOf, answerText, bitText, refusalText, over, printing}
+use Rattle.play.specs.Play.{Session, sessionOf, answerText, bitText, over, printing}
 
 -- ---- a run of stores
 

@@ -1,7 +1,12 @@
 -- `tag::event` meets its contract: the checks in their order, then the event by its code. Assumes nothing.
+use mathlib.Core.Path.{_≡_, sym, ap, _∙_}
+use mathlib.Core.List.{List}
+use Prim.Native.Nat.{ℕ}
 use borrow.Author.Needs.{needs}
-use borrow.Author.Tests.{eq-eqb, ne-eqb, lt-ltb, le-ltb}
-use Rattle.tag.specs.Tag.{eventOf, step, resetTag}
+use borrow.Author.Tests.{eq-eqb, ne-eqb}
+use Rattle.tag.specs.declared.Answered.{Answered}
+use Rattle.tag.specs.Tag.{Outcome, resetTag, eventOf, step}
+use Rattle.tag.specs.Tag.Laws.{event-slot, event-reset, event-tick, event-reading, event-other}
 use Rattle.tag.proofs.event.Statement.{statement}
 use Rattle.tag.proofs.event.Tie as tie
 
@@ -9,7 +14,7 @@ refuse-requires : tie.Need-refuse-requires
 refuse-requires c κs = search needs
 
 returns : tie.Need-returns
-unfolding step eventOf resetTag
+unfolding step
 returns c = (simp (c .refuse .ensures, ne-eqb _ _ (c .before .if1 .taken)), simp (ne-eqb _ _ (c .before .if1 .taken)))
 
 in-range-requires : tie.Need-in-range-requires
@@ -19,14 +24,24 @@ refuse-requires-2 : tie.Need-refuse-requires-2
 refuse-requires-2 c κs = search needs
 
 returns-2 : tie.Need-returns-2
-unfolding step eventOf resetTag
-returns-2 c = (simp (c .refuse2 .ensures, eq-eqb _ _ (c .before .before .before .if1 .left), ← c .before .before .in-range .ensures, c .before .if2 .taken), simp (eq-eqb _ _ (c .before .before .before .if1 .left), ← c .before .before .in-range .ensures, c .before .if2 .taken))
+unfolding step
+returns-2 c =
+    let whole = eq-eqb _ _ (c .before .before .before .if1 .left) in
+    let checked = c .before .before .in-range .ensures in
+    (simp (c .refuse2 .ensures, whole, ← checked, c .before .if2 .taken), simp (whole, ← checked, c .before .if2 .taken))
 
-slot-requires : tie.Need-slot-requires
-slot-requires c κs = search needs
+abbrev answeredOf : Outcome → Answered
+answeredOf outcome = outcome .answered
 
-slot-requires-2 : tie.Need-slot-requires-2
-slot-requires-2 c κs = search needs
+abbrev imageOf : Outcome → List ℕ
+imageOf outcome = outcome .image
+
+-- past both checks the event goes by its code
+by-code : (c : tie.Else2) →
+    let a = c .before .before .before .before .args in
+    step (a .image .now) (a .tag) (a .code) (a .reading) ≡ eventOf (a .image .now) (a .tag) (a .code) (a .reading)
+unfolding step
+by-code c = simp (eq-eqb _ _ (c .before .before .if1 .left), ← c .before .in-range .ensures, c .if2 .left)
 
 reset-requires : tie.Need-reset-requires
 reset-requires c κs = search needs
@@ -35,43 +50,51 @@ refuse-requires-3 : tie.Need-refuse-requires-3
 refuse-requires-3 c κs = search needs
 
 returns-3 : tie.Need-returns-3
-unfolding step eventOf resetTag
-returns-3 c = (simp (c .refuse3 .ensures, eq-eqb _ _ (c .before .before .before .before .before .if1 .left), ← c .before .before .before .before .in-range .ensures, c .before .before .before .if2 .left, c .before .before .match .keys4, lt-ltb _ _ (c .before .if3 .taken)), simp (eq-eqb _ _ (c .before .before .before .before .before .if1 .left), ← c .before .before .before .before .in-range .ensures, c .before .before .before .if2 .left, c .before .before .match .keys4, lt-ltb _ _ (c .before .if3 .taken)))
+returns-3 c =
+    let tick = c .before .before in
+    let so = by-code (tick .before) ∙ event-reading _ _ _ _ (tick .match .keys2) (c .before .if3 .taken) in
+    (c .refuse3 .ensures ∙ sym (ap answeredOf so), sym (ap imageOf so))
 
 tick-requires : tie.Need-tick-requires
 tick-requires c κs = search needs
 
+slot-requires : tie.Need-slot-requires
+slot-requires c κs = search needs
+
 refuse-requires-4 : tie.Need-refuse-requires-4
 refuse-requires-4 c κs = search needs
+
+returns-4 : tie.Need-returns-4
+unfolding resetTag
+returns-4 c =
+    let so = by-code (c .before .before) ∙ event-reset _ _ _ _ (c .before .match .keys1) in
+    (c .reset .ensures ∙ sym (ap answeredOf so), sym (ap imageOf so))
 
 same-length : tie.Need-same-length
 same-length c = search needs
 
-returns-4 : tie.Need-returns-4
-unfolding step eventOf resetTag
-returns-4 c = (simp (c .before .before .slot .ensures .0, eq-eqb _ _ (c .before .before .before .before .before .before .before .if1 .left), ← c .before .before .before .before .before .before .in-range .ensures, c .before .before .before .before .before .if2 .left, c .before .before .before .before .match .keys1), simp (c .before .before .slot .ensures .1, eq-eqb _ _ (c .before .before .before .before .before .before .before .if1 .left), ← c .before .before .before .before .before .before .in-range .ensures, c .before .before .before .before .before .if2 .left, c .before .before .before .before .match .keys1))
+returns-5 : tie.Need-returns-5
+returns-5 c =
+    let done = c .before .before .tick .ensures in
+    let small = c .before .before .before .before in
+    let so = by-code (small .before .before) ∙ event-tick _ _ _ _ (small .before .match .keys2) (small .if3 .left) in
+    (done .0 ∙ sym (ap answeredOf so), done .1 ∙ sym (ap imageOf so))
 
 same-length-2 : tie.Need-same-length-2
 same-length-2 c = search needs
 
-returns-5 : tie.Need-returns-5
-unfolding step eventOf resetTag
-returns-5 c = (simp (c .before .before .slot2 .ensures .0, eq-eqb _ _ (c .before .before .before .before .before .before .before .if1 .left), ← c .before .before .before .before .before .before .in-range .ensures, c .before .before .before .before .before .if2 .left, c .before .before .before .before .match .keys2), simp (c .before .before .slot2 .ensures .1, eq-eqb _ _ (c .before .before .before .before .before .before .before .if1 .left), ← c .before .before .before .before .before .before .in-range .ensures, c .before .before .before .before .before .if2 .left, c .before .before .before .before .match .keys2))
-
 returns-6 : tie.Need-returns-6
-unfolding step eventOf resetTag
-returns-6 c = (simp (c .reset .ensures, eq-eqb _ _ (c .before .before .before .before .if1 .left), ← c .before .before .before .in-range .ensures, c .before .before .if2 .left, c .before .match .keys3), simp (eq-eqb _ _ (c .before .before .before .before .if1 .left), ← c .before .before .before .in-range .ensures, c .before .before .if2 .left, c .before .match .keys3))
-
-same-length-3 : tie.Need-same-length-3
-same-length-3 c = search needs
+returns-6 c =
+    let done = c .before .before .slot .ensures in
+    let slot = c .before .before .before .before in
+    let so = by-code (slot .before .before) ∙ event-slot _ _ _ _ (slot .if4 .taken) in
+    (done .0 ∙ sym (ap answeredOf so), done .1 ∙ sym (ap imageOf so))
 
 returns-7 : tie.Need-returns-7
-unfolding step eventOf resetTag
-returns-7 c = (simp (c .before .before .tick .ensures .0, eq-eqb _ _ (c .before .before .before .before .before .before .before .before .if1 .left), ← c .before .before .before .before .before .before .before .in-range .ensures, c .before .before .before .before .before .before .if2 .left, c .before .before .before .before .before .match .keys4, le-ltb _ _ (c .before .before .before .before .if3 .left)), simp (c .before .before .tick .ensures .1, eq-eqb _ _ (c .before .before .before .before .before .before .before .before .if1 .left), ← c .before .before .before .before .before .before .before .in-range .ensures, c .before .before .before .before .before .before .if2 .left, c .before .before .before .before .before .match .keys4, le-ltb _ _ (c .before .before .before .before .if3 .left)))
-
-returns-8 : tie.Need-returns-8
-unfolding step eventOf resetTag
-returns-8 c = (simp (c .refuse4 .ensures, eq-eqb _ _ (c .before .before .before .before .if1 .left), ← c .before .before .before .in-range .ensures, c .before .before .if2 .left, ne-eqb _ _ (c .before .match .rest .1), ne-eqb _ _ (c .before .match .rest .0 .1), ne-eqb _ _ (c .before .match .rest .0 .0 .1), ne-eqb _ _ (c .before .match .rest .0 .0 .0 .1)), simp (eq-eqb _ _ (c .before .before .before .before .if1 .left), ← c .before .before .before .in-range .ensures, c .before .before .if2 .left, ne-eqb _ _ (c .before .match .rest .1), ne-eqb _ _ (c .before .match .rest .0 .1), ne-eqb _ _ (c .before .match .rest .0 .0 .1), ne-eqb _ _ (c .before .match .rest .0 .0 .0 .1)))
+returns-7 c =
+    let other = c .before .before in
+    let so = by-code (other .before) ∙ event-other _ _ _ _ (c .before .if4 .left) (other .match .rest .0 .1) (other .match .rest .1) in
+    (c .refuse4 .ensures ∙ sym (ap answeredOf so), sym (ap imageOf so))
 
 pub event-spec : {M : Type 1} → statement M
 event-spec =
@@ -82,18 +105,15 @@ event-spec =
     in-range-requires
     refuse-requires-2
     returns-2
-    slot-requires
-    slot-requires-2
     reset-requires
     refuse-requires-3
     returns-3
     tick-requires
+    slot-requires
     refuse-requires-4
-    same-length
     returns-4
-    same-length-2
+    same-length
     returns-5
+    same-length-2
     returns-6
-    same-length-3
-    returns-7
-    returns-8)
+    returns-7)

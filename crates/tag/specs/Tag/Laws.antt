@@ -4,9 +4,9 @@ use mathlib.Core.Path.{_≡_, refl, ap, _∙_}
 use mathlib.Core.Bool.{Bool, true, false, not, _&&_, and-eq-true-iff}
 use mathlib.Core.List.{List}
 use mathlib.Core.Logic.{_≢_}
-use Prim.Native.Nat.{ℕ, _≤_, _<_}
+use Prim.Native.Nat.{ℕ, zero, suc, _≤_, _<_}
 use native.Mathlib.Omega.{arith}
-use borrow.Author.Tests.{eq-eqb, eqb-true, eqb-false, ltb-false, lt-ltb}
+use borrow.Author.Tests.{eq-eqb, ne-eqb, eqb-true, eqb-false, ltb-false, lt-ltb, le-ltb}
 use lib.Dec.{eqb, ltb}
 use lib.ListN.{length, replicate, length-set, length-replicate}
 use Rattle.answer.specs.Answer.{answerNumber}
@@ -108,6 +108,35 @@ pub step-taken : (image : List ℕ) (tag : Tag) (code reading : ℕ) → length 
     step image tag code reading ≡ eventOf image tag code reading
 unfolding step
 step-taken image tag code reading whole inRange = rw (eq-eqb (length image) 8832 whole, inRange)
+
+-- a slot by its code, whose bit is the code
+pub event-slot : (image : List ℕ) (tag : Tag) (code reading : ℕ) → code < 2 →
+    eventOf image tag code reading ≡ slotted image tag (eqb code 1)
+unfolding eventOf
+event-slot image tag zero reading h = refl
+event-slot image tag (suc zero) reading h = refl
+event-slot image tag (suc (suc code)) reading h = absurd (omega arith)
+
+pub event-reset : (image : List ℕ) (tag : Tag) (code reading : ℕ) → code ≡ 2 → eventOf image tag code reading ≡ resetTag image tag
+unfolding eventOf
+event-reset image tag code reading e = simp e
+
+pub event-tick : (image : List ℕ) (tag : Tag) (code reading : ℕ) → code ≡ 3 → reading ≤ 2047 →
+    eventOf image tag code reading ≡ tickTag image tag reading
+unfolding eventOf
+event-tick image tag code reading e small = simp (e, le-ltb 2047 reading small)
+
+pub event-reading : (image : List ℕ) (tag : Tag) (code reading : ℕ) → code ≡ 3 → 2047 < reading →
+    eventOf image tag code reading ≡ refusal Answer.Reading tag image
+unfolding eventOf
+event-reading image tag code reading e large = simp (e, lt-ltb 2047 reading large)
+
+-- and every code that is none
+pub event-other : (image : List ℕ) (tag : Tag) (code reading : ℕ) → 2 ≤ code → code ≢ 2 → code ≢ 3 →
+    eventOf image tag code reading ≡ refusal Answer.EventCode tag image
+unfolding eventOf
+event-other image tag code reading h no-reset no-tick =
+    simp (ne-eqb code 0 (λ e. absurd (omega (arith, e))), ne-eqb code 1 (λ e. absurd (omega (arith, e))), ne-eqb code 2 no-reset, ne-eqb code 3 no-tick)
 
 pub answer-taken : (image : List ℕ) (tag : Tag) (code reading : ℕ) → length image ≡ 8832 → tagInRange tag ≡ true →
     step image tag code reading .answered .answer ≡ eventAnswer code reading

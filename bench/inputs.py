@@ -1,0 +1,117 @@
+"""The inputs of the measurement, made with the independent model of tests/: each is what play or list reads.
+
+slots: a reader at a tag with passwords, over and over: Read ROM, a search, a write and read back of the scratchpad, pages
+of the log read with a wrong and a right password. seconds, minutes: ticks in a mission that converts every second (16-bit
+entries, rollover) or every minute. dump: a log of 8,192 entries, full and rolled over.
+"""
+
+import pathlib
+import random
+import sys
+
+sys.path.insert(0, str(pathlib.Path(__file__).resolve().parent.parent / "tests"))
+
+from model import dock, tag  # noqa: E402
+from model.crc import crc8  # noqa: E402
+from model.master import Master  # noqa: E402
+
+PLAYED = {
+    "slots": "`play`: slots of a reader's commands",
+    "seconds": "`play`: ticks in a mission, a conversion every second",
+    "minutes": "`play`: ticks in a mission, a conversion every minute",
+}
+LEAST_EVENTS = 2_000_000
+ROM = bytes.fromhex("412BC5FB000000")
+ROM += bytes((crc8(ROM),))
+CODE = 0x40
+FULL, READ = b"GROWER-1", b"INSPECT1"
+
+# Mission control: EHSS, entries of two bytes, rollover.
+SECONDS = {"clock_control": 0x03, "rate": 1, "control": 0xD5}
+MINUTES = {"clock_control": 0x01, "rate": 1, "control": 0xD5}
+# One byte an entry: all 8,192 places.
+BYTES = {"clock_control": 0x03, "rate": 1, "control": 0xD1}
+
+
+def new_master():
+    number, made = tag.new(ROM, CODE, bytearray(8832))
+    assert number == 0
+    return Master(made)
+
+
+def set_up(master, settings):
+    """Registers, passwords, Clear and Start: the next tick is the mission's first."""
+    registers = bytearray(32)
+    registers[0x00:0x06] = bytes.fromhex("000012150126")
+    registers[0x06:0x08] = settings["rate"].to_bytes(2, "little")
+    registers[0x08:0x0A] = bytes((0x52, 0x66))
+    registers[0x10] = 0x03
+    registers[0x12], registers[0x13] = settings["clock_control"], settings["control"]
+    master.store(0x0200, registers)
+    master.store(0x0220, bytes(7) + b"\xAA" + READ + FULL + bytes(8))
+    master.skip()
+    master.clear(FULL)
+    master.skip()
+    master.start(FULL)
+    assert master.tag.byte_at(0x0215) & 0x02, "the mission runs"
+
+
+def readings(rng):
+    """A bag's readings: they wander, across both thresholds now and then."""
+    reading = 700
+    while True:
+        reading = min(2047, max(0, reading + rng.randint(-3, 3)))
+        yield reading
+
+
+def events_of(master, before, repeated):
+    """A header, what was played before, and the rest of what was played, repeated until it is long enough."""
+    body = bytes(master.triples[before:])
+    times = -(-LEAST_EVENTS * 3 // len(body)) if repeated else 1
+    return ROM + bytes((CODE,)) + bytes(master.triples[:before]) + body * times
+
+
+def slots():
+    master = new_master()
+    set_up(master, SECONDS)
+    before = len(master.triples)
+    master.read_rom()
+    master.search(ROM)
+    master.match(ROM)
+    master.write_scratchpad(0x0000, bytes(range(32)))
+    master.resume()
+    master.read_scratchpad()
+    for page in range(0x1000, 0x1100, 0x20):
+        master.skip()
+        master.read_memory(page, 32, b"SOMEBODY")
+        master.skip()
+        master.read_memory(page, 32, READ)
+    return events_of(master, before, True)
+
+
+def ticks(settings):
+    master = new_master()
+    set_up(master, settings)
+    wander = readings(random.Random(1))
+    events = bytearray()
+    for _ in range(LEAST_EVENTS):
+        reading = next(wander)
+        events += bytes((3, reading >> 8, reading & 0xFF))
+    return ROM + bytes((CODE,)) + bytes(master.triples) + bytes(events)
+
+
+def full_dump():
+    master = new_master()
+    set_up(master, BYTES)
+    wander = readings(random.Random(2))
+    for _ in range(9000):
+        master.tick(next(wander))
+    return dock.dump(master.tag)
+
+
+def write_all(files):
+    """Writes every input to its file; returns the number of events of each that is played."""
+    made = {"slots": slots(), "seconds": ticks(SECONDS), "minutes": ticks(MINUTES), "dump": full_dump(), "empty": b""}
+    for name, path in files.items():
+        path.write_bytes(made[name])
+    return {name: (len(made[name]) - len(ROM) - 1) // 3 for name in PLAYED}
