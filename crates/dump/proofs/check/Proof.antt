@@ -40,12 +40,6 @@ returns-2 c =
     ∙ turn .inv .1
     ∙ sym (check-lines dump (c .before .before .before .before .before .if1 .left))
 
-add-line : tie.Need-add-line Inv-loop μ-loop
-add-line c = omega arith
-
-loop-less : tie.Need-loop-less Inv-loop μ-loop
-loop-less c = omega arith
-
 loop-again : tie.Need-loop-again Inv-loop μ-loop
 loop-again c =
     let dump = c .before .before .before .before .before .before .before .args .dump .now in
@@ -67,16 +61,5 @@ returns-3 c =
 
 pub check-spec : {M : Type 1} → statement M
 check-spec =
-    tie.close
-    (tie.spec
-    Inv-loop
-    μ-loop
-    returns
-    loop-holds
-    check-line-requires
-    number-requires
-    returns-2
-    add-line
-    loop-less
-    loop-again
-    returns-3)
+    tie.close (tie.spec Inv-loop μ-loop returns loop-holds check-line-requires number-requires returns-2 (omega arith)
+    (omega arith) loop-again returns-3)

@@ -36,14 +36,8 @@ returns c =
 loop-holds : tie.Need-loop-holds Inv-loop μ-loop
 loop-holds c = (omega arith, refl, refl, refl)
 
-mul-pair-at : tie.Need-mul-pair-at Inv-loop μ-loop
-mul-pair-at c = omega arith
-
 pair-at-requires : tie.Need-pair-at-requires Inv-loop μ-loop
 pair-at-requires c κs = tt
-
-enum-known-byte : tie.Need-enum-known-byte Inv-loop μ-loop
-enum-known-byte c = search needs
 
 enum-told : tie.Need-enum-told Inv-loop μ-loop
 enum-told c = search needs
@@ -56,15 +50,6 @@ returns-2 c =
     let bad : pairAt text (2 * turn .i) ≡ Bad = sym (c .before .before .pair-at .ensures) ∙ c .enum-told .given .1 in
     let digits = sym (turn .inv .3) ∙ read-bad text 36 (turn .i) (omega arith) bad in
     sym (check-form text (a .page) (formed-not-digits text digits))
-
-array-write-bytes : tie.Need-array-write-bytes Inv-loop μ-loop
-array-write-bytes c = omega arith
-
-add-i : tie.Need-add-i Inv-loop μ-loop
-add-i c = omega arith
-
-loop-less : tie.Need-loop-less Inv-loop μ-loop
-loop-less c = omega arith
 
 loop-again : tie.Need-loop-again Inv-loop μ-loop
 loop-again c =
@@ -104,9 +89,6 @@ high-sent : (c : tie.After-sent-high Inv-loop μ-loop)
     → c .sent-high .result ≡ sentHigh (crcIn (c .before .before .before .before .before .before .loop .bytes))
 high-sent c = c .sent-high .ensures ∙ ap sentHigh (c .before .before .crc-in .ensures)
 
-shared-slice-read-end : tie.Need-shared-slice-read-end Inv-loop μ-loop
-shared-slice-read-end c = omega arith
-
 page-in-requires : tie.Need-page-in-requires Inv-loop μ-loop
 page-in-requires c κs = tt
 
@@ -118,12 +100,6 @@ sent-low-requires c κs = tt
 
 sent-high-requires : tie.Need-sent-high-requires Inv-loop μ-loop
 sent-high-requires c κs = tt
-
-array-read-if4 : tie.Need-array-read-if4 Inv-loop μ-loop
-array-read-if4 c = omega arith
-
-array-read-if5 : tie.Need-array-read-if5 Inv-loop μ-loop
-array-read-if5 c = omega arith
 
 returns-3 : tie.Need-returns-3 Inv-loop μ-loop
 returns-3 c =
@@ -171,30 +147,6 @@ returns-7 c =
 
 pub check-text-spec : {M : Type 1} → statement M
 check-text-spec =
-    tie.close
-    (tie.spec
-    Inv-loop
-    μ-loop
-    returns
-    loop-holds
-    mul-pair-at
-    pair-at-requires
-    enum-known-byte
-    enum-told
-    returns-2
-    array-write-bytes
-    add-i
-    loop-less
-    loop-again
-    shared-slice-read-end
-    page-in-requires
-    crc-in-requires
-    sent-low-requires
-    sent-high-requires
-    array-read-if4
-    array-read-if5
-    returns-3
-    returns-4
-    returns-5
-    returns-6
-    returns-7)
+    tie.close (tie.spec Inv-loop μ-loop returns loop-holds (omega arith) pair-at-requires (search needs) enum-told returns-2
+    (omega arith) (omega arith) (omega arith) loop-again (omega arith) page-in-requires crc-in-requires sent-low-requires
+    sent-high-requires (omega arith) (omega arith) returns-3 returns-4 returns-5 returns-6 returns-7)

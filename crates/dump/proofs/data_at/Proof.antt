@@ -22,17 +22,8 @@ mul-pair-at c = omega (arith, ltb-false)
 add-pair-at : tie.Need-add-pair-at
 add-pair-at c = omega (arith, ltb-false)
 
-mul-pair-at-2 : tie.Need-mul-pair-at-2
-mul-pair-at-2 c = search needs
-
 add-pair-at-2 : tie.Need-add-pair-at-2
 add-pair-at-2 c = omega (arith, ltb-false)
-
-pair-at-requires : tie.Need-pair-at-requires
-pair-at-requires c κs = search needs
-
-enum-known-byte : tie.Need-enum-known-byte
-enum-known-byte c = search needs
 
 enum-told : tie.Need-enum-told
 enum-told c = search needs
@@ -51,15 +42,5 @@ returns-3 c =
 
 pub data-at-spec : {M : Type 1} → statement M
 data-at-spec =
-    tie.close
-    (tie.spec
-    returns
-    mul-pair-at
-    add-pair-at
-    mul-pair-at-2
-    add-pair-at-2
-    pair-at-requires
-    enum-known-byte
-    enum-told
-    returns-2
-    returns-3)
+    tie.close (tie.spec returns mul-pair-at add-pair-at (search needs) add-pair-at-2 (search needs) (search needs) enum-told
+    returns-2 returns-3)

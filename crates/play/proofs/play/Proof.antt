@@ -16,9 +16,6 @@ abbrev μ-loop : tie.MeasureT-loop
 loop-holds : tie.Need-loop-holds Inv-loop μ-loop
 loop-holds c = (refl, refl, refl)
 
-play-some-requires : tie.Need-play-some-requires Inv-loop μ-loop
-play-some-requires c κs = search needs
-
 sub-turns : tie.Need-sub-turns Inv-loop μ-loop
 sub-turns c = omega (arith, c .before .before .before .before .before .before .before .before .before .before .before .loop-test .taken)
 
@@ -56,21 +53,20 @@ returns-2 : tie.Need-returns-2 Inv-loop μ-loop
 returns-2 c = tt
 
 pub play-spec : {M : Type 1} → statement M
-play-spec =
-    tie.close
-    (tie.spec
-    Inv-loop
-    μ-loop
-    loop-holds
-    play-some-requires
-    sub-turns
-    loop-less
-    loop-again
-    same-length
-    same-length-2
-    same-length-3
-    returns
-    same-length-4
-    same-length-5
-    same-length-6
-    returns-2)
+play-spec {M} =
+    tie.close (search (
+      needs,
+      tie.spec {M = M} Inv-loop μ-loop,
+      loop-holds,
+      sub-turns,
+      loop-less,
+      loop-again,
+      same-length,
+      same-length-2,
+      same-length-3,
+      returns,
+      same-length-4,
+      same-length-5,
+      same-length-6,
+      returns-2,
+    ))
