@@ -75,12 +75,6 @@ loop-again c =
           ∙ rw (following-on (l .refusal) (l .image) (l .now) (drop (l .i) (c .before .before .before .before .before .before .before .before .before .before .before .before .before .before .before .before .before .before .before .before .args .block .now)) accepted) at (l .inv .4),
     )
 
-same-length : tie.Need-same-length Inv-loop μ-loop
-same-length c = c .before .loop .inv .1
-
-same-length-2 : tie.Need-same-length-2 Inv-loop μ-loop
-same-length-2 c = c .before .loop .inv .2
-
 returns : tie.Need-returns Inv-loop μ-loop
 unfolding putOf
 returns c =
@@ -95,4 +89,4 @@ pub play-groups-spec : {M : Type 1} → statement M
 play-groups-spec =
     tie.close (tie.spec Inv-loop μ-loop loop-holds (omega arith) (omega arith) shared-slice-read-reading-of (omega arith)
     shared-slice-read-reading-of-2 (search needs) shared-slice-read-event (search needs) (search needs) (search needs)
-    add-printed add-i loop-less loop-again same-length same-length-2 returns)
+    add-printed add-i loop-less loop-again (search needs) (search needs) returns)
