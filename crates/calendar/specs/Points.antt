@@ -1,5 +1,4 @@
--- The clock's (P) points (document 01, "Points on both sides of a line"), computed from the definition, and beside them what
--- fields do that are not valid. Assumes nothing.
+-- What a step makes of fields that are not valid, computed from the definition. Assumes nothing.
 use mathlib.Core.Path.{_≡_, refl}
 use Prim.Native.Nat.{ℕ}
 use Rattle.calendar.specs.declared.Clock.{Clock}
@@ -8,14 +7,6 @@ use Rattle.calendar.specs.Calendar.{decimal, isValid, plusOne, stepField
 -- six bytes as the document prints them
 abbrev pub bytes : ℕ → ℕ → ℕ → ℕ → ℕ → ℕ → Clock
 bytes seconds minutes hours date month year = record { seconds = seconds; minutes = minutes; hours = hours; date = date; month = month; year = year }
-
--- "59 59 23 31 12 99 becomes 00 00 00 01 81 00", "59 59 23 28 02 23 becomes 00 00 00 01 03 23; year 24 gives 29 02"
-pub points :
-    (nextSecond (bytes 0x59 0x59 0x23 0x31 0x12 0x99) ≡ bytes 0x00 0x00 0x00 0x01 0x81 0x00)
-    × (nextSecond (bytes 0x59 0x59 0x23 0x28 0x02 0x23) ≡ bytes 0x00 0x00 0x00 0x01 0x03 0x23)
-    × (nextSecond (bytes 0x59 0x59 0x23 0x28 0x02 0x24) ≡ bytes 0x00 0x00 0x00 0x29 0x02 0x24)
-unfolding nextSecond nextDay carried stepHours stepMonth stepField isValid plusOne flipped isLeap daysIn decimal
-points = (refl, refl, refl)
 
 -- A date past its month's last, 31 April, returns to 01 and carries, and so does 00. Digits above 9 in seconds and hours carry,
 -- and in minutes that do not step they stay. An invalid month has 31 days, and CENT is kept as it steps. An invalid year

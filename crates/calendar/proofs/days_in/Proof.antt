@@ -8,9 +8,6 @@ use Rattle.calendar.specs.Calendar.{daysIn}
 use Rattle.calendar.proofs.days_in.Statement.{statement}
 use Rattle.calendar.proofs.days_in.Tie as tie
 
-is-leap-requires : tie.Need-is-leap-requires
-is-leap-requires c κs = search needs
-
 returns : tie.Need-returns
 unfolding daysIn
 returns c = simp (c .before .before .match .keys1, ← c .before .is-leap .ensures, c .if1 .taken)
@@ -37,4 +34,4 @@ returns-4 c =
     (ne-eqb _ 0x02 (h .0 .1), ne-eqb _ 0x04 (λ e. h .1 (inl e)), ne-eqb _ 0x06 (λ e. h .1 (inr (inl e))), ne-eqb _ 0x09 (λ e. h .1 (inr (inr (inl e)))), ne-eqb _ 0x11 (λ e. h .1 (inr (inr (inr e)))))
 
 pub days-in-spec : {M : Type 1} → statement M
-days-in-spec = tie.close (tie.spec is-leap-requires returns returns-2 returns-3 returns-4)
+days-in-spec = tie.close (search (needs, tie.spec, returns, returns-2, returns-3, returns-4))

@@ -5,9 +5,6 @@ use Rattle.calendar.specs.Calendar.{flipped}
 use Rattle.calendar.proofs.flip.Statement.{statement}
 use Rattle.calendar.proofs.flip.Tie as tie
 
-add-result : tie.Need-add-result
-add-result c = search needs
-
 returns : tie.Need-returns
 unfolding flipped
 returns c = simp (lt-ltb _ _ (c .if1 .taken))
@@ -17,4 +14,4 @@ unfolding flipped
 returns-2 c = simp (le-ltb _ _ (c .if1 .left))
 
 pub flip-spec : {M : Type 1} → statement M
-flip-spec = tie.close (tie.spec add-result returns returns-2)
+flip-spec = tie.close (tie.spec (search needs) returns returns-2)

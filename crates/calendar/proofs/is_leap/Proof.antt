@@ -4,15 +4,6 @@ use Rattle.calendar.specs.Calendar.{isLeap, decimal}
 use Rattle.calendar.proofs.is_leap.Statement.{statement}
 use Rattle.calendar.proofs.is_leap.Tie as tie
 
-valid-requires : tie.Need-valid-requires
-valid-requires c κs = search needs
-
-mul-result : tie.Need-mul-result
-mul-result c = search needs
-
-add-result : tie.Need-add-result
-add-result c = search needs
-
 returns : tie.Need-returns
 unfolding isLeap decimal
 returns c = rw (← c .before .valid .ensures, c .if1 .taken)
@@ -22,4 +13,4 @@ unfolding isLeap decimal
 returns-2 c = rw (← c .before .valid .ensures, c .if1 .left)
 
 pub is-leap-spec : {M : Type 1} → statement M
-is-leap-spec = tie.close (tie.spec valid-requires mul-result add-result returns returns-2)
+is-leap-spec = tie.close (tie.spec (search needs) (search needs) (search needs) returns returns-2)

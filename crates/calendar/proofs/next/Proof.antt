@@ -5,17 +5,11 @@ use Rattle.calendar.specs.Calendar.{carried, nextSecond}
 use Rattle.calendar.proofs.next.Statement.{statement}
 use Rattle.calendar.proofs.next.Tie as tie
 
-step-requires : tie.Need-step-requires
-step-requires c κs = search needs
-
 returns : tie.Need-returns
 unfolding nextSecond carried
 returns c =
     let s = c .before .before in
     rw (← s .step .ensures, not-true (s .step .result .carry) (c .if1 .taken))
-
-step-requires-2 : tie.Need-step-requires-2
-step-requires-2 c κs = search needs
 
 returns-2 : tie.Need-returns-2
 unfolding nextSecond carried
@@ -25,9 +19,6 @@ returns-2 c =
     rw
     (← s .step .ensures, not-false (s .step .result .carry) (m .before .if1 .left), ← m .step2 .ensures, not-true (m .step2 .result .carry) (c .if2 .taken))
 
-step-hours-requires : tie.Need-step-hours-requires
-step-hours-requires c κs = search needs
-
 returns-3 : tie.Need-returns-3
 unfolding nextSecond carried
 returns-3 c =
@@ -36,9 +27,6 @@ returns-3 c =
     let s = m .before .before .before in
     rw
     (← s .step .ensures, not-false (s .step .result .carry) (m .before .if1 .left), ← m .step2 .ensures, not-false (m .step2 .result .carry) (h .before .if2 .left), ← h .step-hours .ensures, not-true (h .step-hours .result .carry) (c .if3 .taken))
-
-next-day-requires : tie.Need-next-day-requires
-next-day-requires c κs = search needs
 
 returns-4 : tie.Need-returns-4
 unfolding nextSecond carried
@@ -50,14 +38,4 @@ returns-4 c =
     (← s .step .ensures, not-false (s .step .result .carry) (m .before .if1 .left), ← m .step2 .ensures, not-false (m .step2 .result .carry) (h .before .if2 .left), ← h .step-hours .ensures, not-false (h .step-hours .result .carry) (c .before .if3 .left), ← c .next-day .ensures)
 
 pub next-spec : {M : Type 1} → statement M
-next-spec =
-    tie.close
-    (tie.spec
-    step-requires
-    returns
-    step-requires-2
-    returns-2
-    step-hours-requires
-    returns-3
-    next-day-requires
-    returns-4)
+next-spec = tie.close (search (needs, tie.spec, returns, returns-2, returns-3, returns-4))

@@ -7,12 +7,6 @@ use Rattle.calendar.specs.Calendar.{stepField, daysIn, carried, nextDay}
 use Rattle.calendar.proofs.next_day.Statement.{statement}
 use Rattle.calendar.proofs.next_day.Tie as tie
 
-days-in-requires : tie.Need-days-in-requires
-days-in-requires c κs = search needs
-
-step-requires : tie.Need-step-requires
-step-requires c κs = search needs
-
 -- the date's step, to the last date of its month
 date-on : (c : tie.After-step) → let clock = c .before .before .before .args .clock in c .step .result ≡ stepField 0x01 (daysIn (clock .month % 32) (clock .year)) (clock .date)
 date-on c = let clock = c .before .before .before .args .clock in c .step .ensures ∙ ap (λ (n : ℕ). stepField 0x01 n (clock .date)) (c .before .days-in .ensures)
@@ -23,9 +17,6 @@ returns c =
     let d = c .before .before in
     rw (← date-on d, not-true (d .step .result .carry) (c .if1 .taken))
 
-step-month-requires : tie.Need-step-month-requires
-step-month-requires c κs = search needs
-
 returns-2 : tie.Need-returns-2
 unfolding nextDay carried
 returns-2 c =
@@ -33,12 +24,6 @@ returns-2 c =
     let d = m .before .before .before in
     rw
     (← date-on d, not-false (d .step .result .carry) (m .before .if1 .left), ← m .step-month .ensures, not-true (m .step-month .result .carry) (c .if2 .taken))
-
-step-requires-2 : tie.Need-step-requires-2
-step-requires-2 c κs = search needs
-
-flip-requires : tie.Need-flip-requires
-flip-requires c κs = search needs
 
 returns-3 : tie.Need-returns-3
 unfolding nextDay carried
@@ -59,15 +44,4 @@ returns-4 c =
     (← date-on d, not-false (d .step .result .carry) (m .before .if1 .left), ← m .step-month .ensures, not-false (m .step-month .result .carry) (y .before .if2 .left), ← y .step2 .ensures, c .if3 .left)
 
 pub next-day-spec : {M : Type 1} → statement M
-next-day-spec =
-    tie.close
-    (tie.spec
-    days-in-requires
-    step-requires
-    returns
-    step-month-requires
-    returns-2
-    step-requires-2
-    flip-requires
-    returns-3
-    returns-4)
+next-day-spec = tie.close (search (needs, tie.spec, returns, returns-2, returns-3, returns-4))

@@ -11,9 +11,6 @@ use Rattle.calendar.specs.Calendar.Laws.{Between, goes-on-between}
 use Rattle.calendar.proofs.step.Statement.{statement}
 use Rattle.calendar.proofs.step.Tie as tie
 
-valid-requires : tie.Need-valid-requires
-valid-requires c κs = search needs
-
 -- the test that a field returns to its lowest
 test : (c : tie.Joined1) → c .if1 .if2 ≡ (eqb (c .before .args .byte) (c .before .args .last) || not (isValid (c .before .args .lowest) (c .before .args .last) (c .before .args .byte)))
 test c = ⊎-elim (λ w. simp (w .1, eq-eqb _ _ (w .0 .taken))) (λ w. simp (ne-eqb _ _ (w .0 .left), ← w .1 .ensures) (w .2)) (c .if1 .came)
@@ -41,4 +38,4 @@ unfolding stepField plusOne
 returns-3 c = rw (← test (c .before .before), c .before .if2 .left) (rw (ne-eqb _ _ (c .if3 .left)))
 
 pub step-spec : {M : Type 1} → statement M
-step-spec = tie.close (tie.spec valid-requires add-next add-next-2 returns returns-2 returns-3)
+step-spec = tie.close (search (needs, tie.spec, add-next, add-next-2, returns, returns-2, returns-3))

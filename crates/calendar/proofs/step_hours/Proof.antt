@@ -4,12 +4,9 @@ use Rattle.calendar.specs.Calendar.{stepHours}
 use Rattle.calendar.proofs.step_hours.Statement.{statement}
 use Rattle.calendar.proofs.step_hours.Tie as tie
 
-step-requires : tie.Need-step-requires
-step-requires c κs = search needs
-
 returns : tie.Need-returns
 unfolding stepHours
 returns c = c .step .ensures
 
 pub step-hours-spec : {M : Type 1} → statement M
-step-hours-spec = tie.close (tie.spec step-requires returns)
+step-hours-spec = tie.close (search (needs, tie.spec, returns))

@@ -10,9 +10,6 @@ use Rattle.calendar.specs.Calendar.Laws.{step-le}
 use Rattle.calendar.proofs.step_month.Statement.{statement}
 use Rattle.calendar.proofs.step_month.Tie as tie
 
-step-requires : tie.Need-step-requires
-step-requires c κs = search needs
-
 -- the month after `byte % 32` is at most 12h
 small : (byte : ℕ) → stepField 0x01 0x12 (byte % 32) .byte ≤ 0x12
 small byte = step-le (byte % 32) (lit≤ tt) (lit≤ tt)
@@ -35,4 +32,4 @@ returns-2 c =
     rw (c .before .before .step .ensures, cent)
 
 pub step-month-spec : {M : Type 1} → statement M
-step-month-spec = tie.close (tie.spec step-requires add-next returns returns-2)
+step-month-spec = tie.close (search (needs, tie.spec, add-next, returns, returns-2))

@@ -7,6 +7,7 @@ use native.Mathlib.Nat.{suc-add, zero-add}
 use native.Mathlib.Omega.{arith}
 use borrow.Author.Tests.{le-leb, leb-true, eq-eqb, eqb-true, ne-eqb, eqb-false, not-false}
 use lib.Dec.{eqb}
+use Rattle.bits.specs.Choose.{either}
 use Rattle.calendar.specs.declared.Clock.{Clock}
 use Rattle.calendar.specs.Calendar.{Digits, isValid, plusOne, stepField, carried, stepHours, nextSecond, clockAfter}
 
@@ -65,26 +66,19 @@ step-on {lowest} {last} {byte} b h =
 -- past a 9 the byte goes on by seven, else by one
 pub plus-one : (byte : ℕ) → (byte % 16 ≡ 9 × plusOne byte ≡ byte + 7) ⊎ (¬ (byte % 16 ≡ 9) × plusOne byte ≡ byte + 1)
 unfolding plusOne
-plus-one byte = go (eqb (byte % 16) 9) refl
-  where
-    go : (t : Bool) → eqb (byte % 16) 9 ≡ t → (byte % 16 ≡ 9 × plusOne byte ≡ byte + 7) ⊎ (¬ (byte % 16 ≡ 9) × plusOne byte ≡ byte + 1)
-    go true e = inl (eqb-true (byte % 16) 9 e, rw e)
-    go false e = inr (eqb-false (byte % 16) 9 e, rw e)
+plus-one byte =
+    either (λ n. (byte % 16 ≡ 9 × n ≡ byte + 7) ⊎ (¬ (byte % 16 ≡ 9) × n ≡ byte + 1)) (eqb (byte % 16) 9)
+    (λ e. inl (eqb-true (byte % 16) 9 e, refl)) (λ e. inr (eqb-false (byte % 16) 9 e, refl))
 
 -- a field returns to its lowest, or it is valid, not yet at its last, and goes on
 pub step-cases : (lowest last byte : ℕ) →
     (stepField lowest last byte ≡ record { byte = lowest; carry = true })
     ⊎ (Between lowest last byte × byte < last × stepField lowest last byte ≡ record { byte = plusOne byte; carry = false })
 unfolding stepField
-step-cases lowest last byte = go (eqb byte last || not (isValid lowest last byte)) refl
-  where
-    go : (t : Bool) → (eqb byte last || not (isValid lowest last byte)) ≡ t →
-        (stepField lowest last byte ≡ record { byte = lowest; carry = true })
-        ⊎ (Between lowest last byte × byte < last × stepField lowest last byte ≡ record { byte = plusOne byte; carry = false })
-    go true e = inl (rw e)
-    go false e =
-        let b = goes-on-between lowest last byte e in
-        inr (b, omega (arith, b, eqb-false byte last (or-left _ _ e)), rw e)
+step-cases lowest last byte =
+    either (λ s. (s ≡ record { byte = lowest; carry = true }) ⊎ (Between lowest last byte × byte < last × s ≡ record { byte = plusOne byte; carry = false }))
+    (eqb byte last || not (isValid lowest last byte)) (λ e. inl refl)
+    (λ e. let b = goes-on-between lowest last byte e in inr (b, omega (arith, b, eqb-false byte last (or-left _ _ e)), refl))
 
 -- a field is never past its last value after a step
 pub step-le : {lowest last : ℕ} (byte : ℕ) → last % 16 ≤ 9 → lowest ≤ last → stepField lowest last byte .byte ≤ last

@@ -6,24 +6,6 @@ use borrow.Author.Needs.{needs}
 use Rattle.dump.proofs.byte_at.Statement.{statement}
 use Rattle.dump.proofs.byte_at.Tie as tie
 
-cast-at : tie.Need-cast-at
-cast-at c = search needs
-
-cast-data-at : tie.Need-cast-data-at
-cast-data-at c = search needs
-
-data-at-requires : tie.Need-data-at-requires
-data-at-requires c κs = search needs
-
-cast-data-at-2 : tie.Need-cast-data-at-2
-cast-data-at-2 c = search needs
-
-add-data-at : tie.Need-add-data-at
-add-data-at c = search needs
-
-data-at-requires-2 : tie.Need-data-at-requires-2
-data-at-requires-2 c κs = search needs
-
 returns : tie.Need-returns
 returns c =
     let a = c .before .before .before .before .args in
@@ -49,16 +31,5 @@ returns-5 c =
 
 pub byte-at-spec : {M : Type 1} → statement M
 byte-at-spec =
-    tie.close
-    (tie.spec
-    cast-at
-    cast-data-at
-    data-at-requires
-    cast-data-at-2
-    add-data-at
-    data-at-requires-2
-    returns
-    returns-2
-    returns-3
-    returns-4
-    returns-5)
+    tie.close (tie.spec (search needs) (search needs) (search needs) (search needs) (search needs) (search needs) returns
+    returns-2 returns-3 returns-4 returns-5)

@@ -3,6 +3,7 @@
 use mathlib.Core.Path.{_≡_, refl, sym, _∙_}
 use Prim.Native.Nat.{_+_, _-_, _≤_}
 use native.Mathlib.Omega.{arith}
+use borrow.Author.Needs.{needs}
 use Rattle.answer.specs.Answer.{answerNumber}
 use Rattle.dump.specs.Check.{checkLine, checkLines}
 use Rattle.dump.specs.Check.Laws.{first-refused, first-accepted, lines-more, lines-none, check-length, check-lines}
@@ -21,12 +22,6 @@ returns c = sym (check-length (c .before .before .args .dump .now) (c .if1 .take
 loop-holds : tie.Need-loop-holds Inv-loop μ-loop
 loop-holds c = (omega arith, refl)
 
-check-line-requires : tie.Need-check-line-requires Inv-loop μ-loop
-check-line-requires c κs = tt
-
-number-requires : tie.Need-number-requires Inv-loop μ-loop
-number-requires c κs = tt
-
 returns-2 : tie.Need-returns-2 Inv-loop μ-loop
 returns-2 c =
     let dump = c .before .before .before .before .before .before .before .args .dump .now in
@@ -39,12 +34,6 @@ returns-2 c =
     ∙ sym (lines-more dump (turn .line) (258 - turn .line) (omega arith))
     ∙ turn .inv .1
     ∙ sym (check-lines dump (c .before .before .before .before .before .if1 .left))
-
-add-line : tie.Need-add-line Inv-loop μ-loop
-add-line c = omega arith
-
-loop-less : tie.Need-loop-less Inv-loop μ-loop
-loop-less c = omega arith
 
 loop-again : tie.Need-loop-again Inv-loop μ-loop
 loop-again c =
@@ -67,16 +56,5 @@ returns-3 c =
 
 pub check-spec : {M : Type 1} → statement M
 check-spec =
-    tie.close
-    (tie.spec
-    Inv-loop
-    μ-loop
-    returns
-    loop-holds
-    check-line-requires
-    number-requires
-    returns-2
-    add-line
-    loop-less
-    loop-again
-    returns-3)
+    tie.close (tie.spec Inv-loop μ-loop returns loop-holds (search needs) (search needs) returns-2 (omega arith)
+    (omega arith) loop-again returns-3)

@@ -12,27 +12,6 @@ use Rattle.dump.proofs.check_line.Tie as tie
 returns : tie.Need-returns
 returns c = let a = c .before .before .args in sym (check-short (a .dump .now) (a .line) (c .if1 .taken))
 
-mul-start : tie.Need-mul-start
-mul-start c = search needs
-
-add-check-text : tie.Need-add-check-text
-add-check-text c = search needs
-
-sub-check-text : tie.Need-sub-check-text
-sub-check-text c = search needs
-
-part-check-text-start : tie.Need-part-check-text-start
-part-check-text-start c = search needs
-
-part-check-text-end : tie.Need-part-check-text-end
-part-check-text-end c = search needs
-
-page-of-requires : tie.Need-page-of-requires
-page-of-requires c κs = search needs
-
-check-text-requires : tie.Need-check-text-requires
-check-text-requires c κs = search needs
-
 returns-2 : tie.Need-returns-2
 unfolding checkLine lineAt
 returns-2 c =
@@ -42,14 +21,5 @@ returns-2 c =
 
 pub check-line-spec : {M : Type 1} → statement M
 check-line-spec =
-    tie.close
-    (tie.spec
-    returns
-    mul-start
-    add-check-text
-    sub-check-text
-    part-check-text-start
-    part-check-text-end
-    page-of-requires
-    check-text-requires
-    returns-2)
+    tie.close (tie.spec returns (search needs) (search needs) (search needs) (search needs) (search needs) (search needs)
+    (search needs) returns-2)

@@ -1,20 +1,21 @@
 -- `dump::check_text` meets its contract. The loop's invariant: the bytes so far are the text's, and all its pairs are digits
 -- exactly if those that are left are. The measure is the number of pairs left. Assumes nothing.
-use mathlib.Core.Path.{_≡_, refl, sym, ap, _∙_}
-use mathlib.Core.Bool.{true}
-use mathlib.Core.List.{List}
-use Prim.Native.Nat.{ℕ, _-_, _*_, _≤_, _<_}
+use mathlib.Core.Path.{_≡_, refl, sym, _∙_}
+use mathlib.Core.Bool.{_&&_, not}
+use Prim.Native.Nat.{_-_, _*_, _≤_, _<_}
 use borrow.Author.Needs.{needs}
+use borrow.Author.Tests.{eq-eqb, ne-eqb}
 use native.Mathlib.Omega.{arith}
+use lib.Dec.{eqb}
 use lib.ListN.{length, getD, take, length-set}
-use Rattle.crc.specs.Crc.{sentLow, sentHigh}
+use Rattle.answer.specs.declared.Answer.the-variants.{Accepted, DumpForm, LinePage, LineCrc}
+use Rattle.bits.specs.Choose.{if_then_else_}
 use Rattle.hex.specs.Hex.{allDigits, pairAt}
 use Rattle.hex.specs.Hex.Text.{read-bad, read-byte, read-more, read-all, read-done}
 use Rattle.hex.specs.declared.Pair.the-variants.{Byte, Bad}
-use Rattle.dump.specs.Lines.{bytesIn, crcIn}
-use Rattle.dump.specs.Check.{formed}
-use Rattle.dump.specs.Check.Laws.{formed-not-long, formed-not-digits, formed-not-ended, formed-whole, crc-not-first, crc-not-second, crc-both}
-use Rattle.dump.specs.Check.Laws.{check-form, check-page, check-crc, check-accepted}
+use Rattle.dump.specs.Lines.{bytesIn}
+use Rattle.dump.specs.Check.{formed, crcRight, checkText}
+use Rattle.dump.specs.Check.Laws.{formed-not-long, formed-not-digits, check-form}
 use Rattle.dump.proofs.check_text.Statement.{statement}
 use Rattle.dump.proofs.check_text.Tie as tie
 
@@ -36,18 +37,6 @@ returns c =
 loop-holds : tie.Need-loop-holds Inv-loop μ-loop
 loop-holds c = (omega arith, refl, refl, refl)
 
-mul-pair-at : tie.Need-mul-pair-at Inv-loop μ-loop
-mul-pair-at c = omega arith
-
-pair-at-requires : tie.Need-pair-at-requires Inv-loop μ-loop
-pair-at-requires c κs = tt
-
-enum-known-byte : tie.Need-enum-known-byte Inv-loop μ-loop
-enum-known-byte c = search needs
-
-enum-told : tie.Need-enum-told Inv-loop μ-loop
-enum-told c = search needs
-
 returns-2 : tie.Need-returns-2 Inv-loop μ-loop
 returns-2 c =
     let a = c .before .before .before .before .before .before .before .args in
@@ -56,15 +45,6 @@ returns-2 c =
     let bad : pairAt text (2 * turn .i) ≡ Bad = sym (c .before .before .pair-at .ensures) ∙ c .enum-told .given .1 in
     let digits = sym (turn .inv .3) ∙ read-bad text 36 (turn .i) (omega arith) bad in
     sym (check-form text (a .page) (formed-not-digits text digits))
-
-array-write-bytes : tie.Need-array-write-bytes Inv-loop μ-loop
-array-write-bytes c = omega arith
-
-add-i : tie.Need-add-i Inv-loop μ-loop
-add-i c = omega arith
-
-loop-less : tie.Need-loop-less Inv-loop μ-loop
-loop-less c = omega arith
 
 loop-again : tie.Need-loop-again Inv-loop μ-loop
 loop-again c =
@@ -79,122 +59,60 @@ loop-again c =
       read-byte text 36 (turn .i) inside byte ∙ turn .inv .3,
     )
 
--- after the loop: the text and its bytes, and a line feed is all that the form still asks
-abbrev textOf : tie.After-loop Inv-loop μ-loop → List ℕ
-textOf c = c .before .before .before .before .args .text .now
-
-bytes-read : (c : tie.After-loop Inv-loop μ-loop) → bytesIn (textOf c) ≡ c .before .loop .bytes
-bytes-read c =
-    let end = c .before .loop in
-    sym (read-all (textOf c) 36 (end .i) (end .bytes) (end .inv .1) (c .loop-test .left) (end .inv .2))
-
-form-read : (c : tie.After-loop Inv-loop μ-loop) → getD (textOf c) 72 0 ≡ 0x0A → formed (textOf c) ≡ true
-form-read c ended =
-    let end = c .before .loop in
-    formed-whole (textOf c) (c .before .before .if1 .left)
-    (sym (end .inv .3) ∙ read-done (textOf c) 36 (end .i) (c .loop-test .left))
-    ended
-
--- the CRC bytes that the line should show
-low-sent : (c : tie.After-sent-high Inv-loop μ-loop)
-    → c .before .sent-low .result ≡ sentLow (crcIn (c .before .before .before .before .before .before .loop .bytes))
-low-sent c = c .before .sent-low .ensures ∙ ap sentLow (c .before .before .crc-in .ensures)
-
-high-sent : (c : tie.After-sent-high Inv-loop μ-loop)
-    → c .sent-high .result ≡ sentHigh (crcIn (c .before .before .before .before .before .before .loop .bytes))
-high-sent c = c .sent-high .ensures ∙ ap sentHigh (c .before .before .crc-in .ensures)
-
-shared-slice-read-end : tie.Need-shared-slice-read-end Inv-loop μ-loop
-shared-slice-read-end c = omega arith
-
-page-in-requires : tie.Need-page-in-requires Inv-loop μ-loop
-page-in-requires c κs = tt
-
-crc-in-requires : tie.Need-crc-in-requires Inv-loop μ-loop
-crc-in-requires c κs = tt
-
-sent-low-requires : tie.Need-sent-low-requires Inv-loop μ-loop
-sent-low-requires c κs = tt
-
-sent-high-requires : tie.Need-sent-high-requires Inv-loop μ-loop
-sent-high-requires c κs = tt
-
-array-read-if4 : tie.Need-array-read-if4 Inv-loop μ-loop
-array-read-if4 c = omega arith
-
-array-read-if5 : tie.Need-array-read-if5 Inv-loop μ-loop
-array-read-if5 c = omega arith
+-- all is read: what the tests that are left decide
+tests : (c : tie.After-sent-high Inv-loop μ-loop) → let end = c .before .before .before .before .before in
+    let a = end .before .before .before .before .args in
+    let bytes = end .before .loop .bytes in
+    checkText (a .text .now) (a .page)
+    ≡ (if not (eqb (getD (a .text .now) 72 0) 0x0A) then DumpForm
+    else if not (eqb (c .before .before .before .page-in .result) (a .page)) then LinePage
+    else if not (eqb (getD bytes 34 0) (c .before .sent-low .result) && eqb (getD bytes 35 0) (c .sent-high .result)) then LineCrc
+    else Accepted)
+unfolding checkText formed crcRight
+tests c =
+    let end = c .before .before .before .before .before in
+    let text = end .before .before .before .before .args .text .now in
+    let loop = end .before .loop in
+    simp (
+      eq-eqb (length text) 73 (end .before .before .if1 .left),
+      sym (loop .inv .3) ∙ read-done text 36 (loop .i) (end .loop-test .left),
+      ← read-all text 36 (loop .i) (loop .bytes) (loop .inv .1) (end .loop-test .left) (loop .inv .2),
+      c .before .before .before .page-in .ensures,
+      c .before .sent-low .ensures,
+      c .sent-high .ensures,
+      c .before .before .crc-in .ensures,
+    )
 
 returns-3 : tie.Need-returns-3 Inv-loop μ-loop
-returns-3 c =
-    let a = c .before .before .before .before .before .before .before .before .before .before .args in
-    sym (check-form (a .text .now) (a .page) (formed-not-ended (a .text .now) (c .if2 .taken)))
+returns-3 c = sym (tests (c .before) ∙ simp (ne-eqb _ _ (c .if2 .taken)))
 
 returns-4 : tie.Need-returns-4 Inv-loop μ-loop
-returns-4 c =
-    let a = c .before .before .before .before .before .before .before .before .before .before .before .args in
-    let end = c .before .before .before .before .before .before .before in
-    let whole = form-read end (c .before .if2 .left) in
-    let shown = c .before .before .before .before .before .page-in .ensures in
-    sym (check-page (a .text .now) (a .page) (bytes-read end) whole (λ e. c .if3 .taken (shown ∙ e)))
+returns-4 c = sym (tests (c .before .before) ∙ simp (eq-eqb _ _ (c .before .if2 .left), ne-eqb _ _ (c .if3 .taken)))
 
 returns-5 : tie.Need-returns-5 Inv-loop μ-loop
 returns-5 c =
-    let a = c .before .before .before .before .before .before .before .before .before .before .before .before .args in
-    let end = c .before .before .before .before .before .before .before .before in
-    let whole = form-read end (c .before .before .if2 .left) in
-    let shown = c .before .before .before .before .before .before .page-in .ensures in
-    let low = low-sent (c .before .before .before) in
-    let wrong = crc-not-first (end .before .loop .bytes) (λ e. c .if4 .taken (e ∙ sym low)) in
-    sym (check-crc (a .text .now) (a .page) (bytes-read end) whole (sym shown ∙ c .before .if3 .left) wrong)
+    let paged = c .before in
+    sym (tests (paged .before .before)
+    ∙ simp (eq-eqb _ _ (paged .before .if2 .left), eq-eqb _ _ (paged .if3 .left), ne-eqb _ _ (c .if4 .taken)))
+
+-- the first CRC byte is right too
+second : (c : tie.Else4 Inv-loop μ-loop) → let end = c .before .before .before .before .before .before .before .before in
+    let a = end .before .before .before .before .args in
+    checkText (a .text .now) (a .page)
+    ≡ (if not (eqb (getD (end .before .loop .bytes) 35 0) (c .before .before .before .sent-high .result)) then LineCrc else Accepted)
+second c =
+    let paged = c .before in
+    tests (paged .before .before)
+    ∙ simp (eq-eqb _ _ (paged .before .if2 .left), eq-eqb _ _ (paged .if3 .left), eq-eqb _ _ (c .if4 .left))
 
 returns-6 : tie.Need-returns-6 Inv-loop μ-loop
-returns-6 c =
-    let a = c .before .before .before .before .before .before .before .before .before .before .before .before .before .args in
-    let end = c .before .before .before .before .before .before .before .before .before in
-    let whole = form-read end (c .before .before .before .if2 .left) in
-    let shown = c .before .before .before .before .before .before .before .page-in .ensures in
-    let high = high-sent (c .before .before .before .before) in
-    let wrong = crc-not-second (end .before .loop .bytes) (λ e. c .if5 .taken (e ∙ sym high)) in
-    sym (check-crc (a .text .now) (a .page) (bytes-read end) whole (sym shown ∙ c .before .before .if3 .left) wrong)
+returns-6 c = sym (second (c .before) ∙ simp (ne-eqb _ _ (c .if5 .taken)))
 
 returns-7 : tie.Need-returns-7 Inv-loop μ-loop
-returns-7 c =
-    let a = c .before .before .before .before .before .before .before .before .before .before .before .before .before .args in
-    let end = c .before .before .before .before .before .before .before .before .before in
-    let whole = form-read end (c .before .before .before .if2 .left) in
-    let shown = c .before .before .before .before .before .before .before .page-in .ensures in
-    let low = low-sent (c .before .before .before .before) in
-    let high = high-sent (c .before .before .before .before) in
-    let right = crc-both (end .before .loop .bytes) (c .before .if4 .left ∙ low) (c .if5 .left ∙ high) in
-    sym (check-accepted (a .text .now) (a .page) (bytes-read end) whole (sym shown ∙ c .before .before .if3 .left) right)
+returns-7 c = sym (second (c .before) ∙ simp (eq-eqb _ _ (c .if5 .left)))
 
 pub check-text-spec : {M : Type 1} → statement M
 check-text-spec =
-    tie.close
-    (tie.spec
-    Inv-loop
-    μ-loop
-    returns
-    loop-holds
-    mul-pair-at
-    pair-at-requires
-    enum-known-byte
-    enum-told
-    returns-2
-    array-write-bytes
-    add-i
-    loop-less
-    loop-again
-    shared-slice-read-end
-    page-in-requires
-    crc-in-requires
-    sent-low-requires
-    sent-high-requires
-    array-read-if4
-    array-read-if5
-    returns-3
-    returns-4
-    returns-5
-    returns-6
-    returns-7)
+    tie.close (tie.spec Inv-loop μ-loop returns loop-holds (omega arith) (search needs) (search needs) (search needs)
+    returns-2 (omega arith) (omega arith) (omega arith) loop-again (omega arith) (search needs) (search needs)
+    (search needs) (search needs) (omega arith) (omega arith) returns-3 returns-4 returns-5 returns-6 returns-7)

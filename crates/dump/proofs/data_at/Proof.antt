@@ -16,27 +16,6 @@ returns c =
     (λ w. sym (data-none (a .dump .now) (a .line) (a .at) (omega (arith, ltb-true, w .1)) (omega (arith, w .0))))
     (c .if1 .came)
 
-mul-pair-at : tie.Need-mul-pair-at
-mul-pair-at c = omega (arith, ltb-false)
-
-add-pair-at : tie.Need-add-pair-at
-add-pair-at c = omega (arith, ltb-false)
-
-mul-pair-at-2 : tie.Need-mul-pair-at-2
-mul-pair-at-2 c = search needs
-
-add-pair-at-2 : tie.Need-add-pair-at-2
-add-pair-at-2 c = omega (arith, ltb-false)
-
-pair-at-requires : tie.Need-pair-at-requires
-pair-at-requires c κs = search needs
-
-enum-known-byte : tie.Need-enum-known-byte
-enum-known-byte c = search needs
-
-enum-told : tie.Need-enum-told
-enum-told c = search needs
-
 returns-2 : tie.Need-returns-2
 returns-2 c =
     let a = c .before .before .before .before .before .before .args in
@@ -51,15 +30,5 @@ returns-3 c =
 
 pub data-at-spec : {M : Type 1} → statement M
 data-at-spec =
-    tie.close
-    (tie.spec
-    returns
-    mul-pair-at
-    add-pair-at
-    mul-pair-at-2
-    add-pair-at-2
-    pair-at-requires
-    enum-known-byte
-    enum-told
-    returns-2
-    returns-3)
+    tie.close (tie.spec returns (omega (arith, ltb-false)) (omega (arith, ltb-false)) (search needs)
+    (omega (arith, ltb-false)) (search needs) (search needs) (λ c. search needs) returns-2 returns-3)

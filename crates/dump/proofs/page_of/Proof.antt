@@ -5,24 +5,6 @@ use borrow.Author.Needs.{needs}
 use Rattle.dump.proofs.page_of.Statement.{statement}
 use Rattle.dump.proofs.page_of.Tie as tie
 
-cast-result : tie.Need-cast-result
-cast-result c = search needs
-
-mul-result : tie.Need-mul-result
-mul-result c = search needs
-
-add-result : tie.Need-add-result
-add-result c = search needs
-
-cast-result-2 : tie.Need-cast-result-2
-cast-result-2 c = search needs
-
-mul-result-2 : tie.Need-mul-result-2
-mul-result-2 c = search needs
-
-add-result-2 : tie.Need-add-result-2
-add-result-2 c = search needs
-
 returns : tie.Need-returns
 returns c = sym (page-register (c .before .args .line) (c .if1 .taken))
 
@@ -34,14 +16,5 @@ returns-3 c = sym (page-none (c .before .before .args .line) (c .if2 .left))
 
 pub page-of-spec : {M : Type 1} → statement M
 page-of-spec =
-    tie.close
-    (tie.spec
-    cast-result
-    mul-result
-    add-result
-    cast-result-2
-    mul-result-2
-    add-result-2
-    returns
-    returns-2
-    returns-3)
+    tie.close (tie.spec (search needs) (search needs) (search needs) (search needs) (search needs) (search needs) returns
+    returns-2 returns-3)

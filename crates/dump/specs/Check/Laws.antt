@@ -25,23 +25,11 @@ pub formed-not-digits : (text : List ℕ) → allDigits text 0 36 ≡ false → 
 unfolding formed
 formed-not-digits text h = simp (h, and-false)
 
-pub formed-not-ended : (text : List ℕ) → (getD text 72 0 ≡ 0x0A → ⊥) → formed text ≡ false
-unfolding formed
-formed-not-ended text h = simp (ne-eqb (getD text 72 0) 0x0A h, and-false)
-
 pub formed-whole : (text : List ℕ) → length text ≡ 73 → allDigits text 0 36 ≡ true → getD text 72 0 ≡ 0x0A → formed text ≡ true
 unfolding formed
 formed-whole text long digits ended = simp (eq-eqb (length text) 73 long, digits, eq-eqb (getD text 72 0) 0x0A ended)
 
 -- ---- a line's CRC bytes
-
-pub crc-not-first : (bytes : List ℕ) → (getD bytes 34 0 ≡ sentLow (crcIn bytes) → ⊥) → crcRight bytes ≡ false
-unfolding crcRight
-crc-not-first bytes h = rw (ne-eqb (getD bytes 34 0) (sentLow (crcIn bytes)) h)
-
-pub crc-not-second : (bytes : List ℕ) → (getD bytes 35 0 ≡ sentHigh (crcIn bytes) → ⊥) → crcRight bytes ≡ false
-unfolding crcRight
-crc-not-second bytes h = simp (ne-eqb (getD bytes 35 0) (sentHigh (crcIn bytes)) h, and-false)
 
 pub crc-both : (bytes : List ℕ) → getD bytes 34 0 ≡ sentLow (crcIn bytes) → getD bytes 35 0 ≡ sentHigh (crcIn bytes)
     → crcRight bytes ≡ true

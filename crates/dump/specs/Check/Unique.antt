@@ -23,14 +23,11 @@ use Rattle.dump.specs.Check.{formed, crcRight, checkText, checkLine, fir
 
 -- ---- a line
 
--- the answer is 0 only if no test fails
-no-refusal : (form page crc : Bool)
-    → answerNumber (if not form then DumpForm else if not page then LinePage else if not crc then LineCrc else Accepted) ≡ 0
-    → (form ≡ true) × (page ≡ true) × (crc ≡ true)
-no-refusal true true true e = (refl, refl, refl)
-no-refusal true true false e = absurd (omega arith)
-no-refusal true false crc e = absurd (omega arith)
-no-refusal false page crc e = absurd (omega arith)
+-- the answer is 0 only if the test before it has not failed
+passed : (t : Bool) (a b : Answer) → (answerNumber b ≡ 0 → ⊥) → answerNumber (if not t then b else a) ≡ 0
+    → (t ≡ true) × (answerNumber a ≡ 0)
+passed true a b refuses e = (refl, e)
+passed false a b refuses e = absurd (refuses e)
 
 -- 36 bytes: two, 32, and two
 next-two : (l : List ℕ) (i : ℕ) → suc i < length l → drop i l ≡ getD l i 0 ∷ getD l (suc i) 0 ∷ drop (suc (suc i)) l
@@ -46,7 +43,10 @@ bytes-parted bytes long =
 module _ (text : List ℕ) (page : ℕ) (accepted : answerNumber (checkText text page) ≡ 0) where
   tests : (formed text ≡ true) × (eqb (pageIn (bytesIn text)) page ≡ true) × (crcRight (bytesIn text) ≡ true)
   unfolding checkText
-  tests = no-refusal (formed text) (eqb (pageIn (bytesIn text)) page) (crcRight (bytesIn text)) accepted
+  tests =
+      let form = passed (formed text) _ DumpForm (λ e. omega arith) accepted in
+      let shown = passed (eqb (pageIn (bytesIn text)) page) _ LinePage (λ e. omega arith) (form .1) in
+      (form .0, shown .0, passed (crcRight (bytesIn text)) Accepted LineCrc (λ e. omega arith) (shown .1) .0)
 
   -- its text is that of its bytes
   text-whole : hexText (bytesIn text) ++ (0x0A ∷ []) ≡ text
@@ -136,13 +136,9 @@ data-dumped dump line h =
     (λ i k. from-at (dumpedAt dump) (pageOf line) 32 i (omega arith) ∙ dumped-page dump line i h (omega arith))
 
 module _ (dump : List ℕ) (accepted : checkOf dump ≡ Accepted) where
-  passes : (t : Bool) (a : Answer) → answerNumber (if not t then DumpForm else a) ≡ 0 → (t ≡ true) × (answerNumber a ≡ 0)
-  passes true a e = (refl, e)
-  passes false a e = absurd (omega arith)
-
   accepted-parts : (eqb (length dump) 18834 ≡ true) × (answerNumber (checkLines dump 0 258) ≡ 0)
   unfolding checkOf
-  accepted-parts = passes (eqb (length dump) 18834) (checkLines dump 0 258) (ap answerNumber accepted)
+  accepted-parts = passed (eqb (length dump) 18834) (checkLines dump 0 258) DumpForm (λ e. omega arith) (ap answerNumber accepted)
 
   pub accepted-length : length dump ≡ 18834
   accepted-length = eqb-true (length dump) 18834 (accepted-parts .0)

@@ -1,15 +1,18 @@
 -- Pages, lines and the bytes in them, for any dump. Assumes nothing.
 use mathlib.Core.Path.{_≡_, ap, _∙_}
+use mathlib.Core.Bool.{_&&_}
 use mathlib.Core.List.{List}
 use Prim.Native.Nat.{ℕ, _+_, _-_, _*_, _/_, _%_, _≤_, _<_}
 use native.Mathlib.Decide.{decLt}
 use native.Mathlib.Omega.{arith}
 use borrow.Author.Tests.{lt-ltb, le-ltb, le-leb, lt-leb}
+use lib.Dec.{ltb, leb}
 use lib.ListN.{length, take, drop, length-take, List·getD-eq-default}
 use lib.Seq.{getD-take, getD-drop}
+use Rattle.bits.specs.Choose.{either}
 use Rattle.hex.specs.Hex.{pairAt, byteOf}
 use Rattle.hex.specs.Hex.Laws.{pair-take, pair-drop, pair-past}
-use Rattle.hex.specs.Hex.Text.{bytes-at}
+use Rattle.hex.specs.Hex.Text.{bytes-at, bytes-small}
 use Rattle.dump.specs.Lines.{pageOf, lineAt, bytesIn, dataIn, dataOf, dumpedAt}
 
 -- ---- the page of a line
@@ -52,7 +55,23 @@ data-past dump line i h =
 pub data-none : (dump : List ℕ) (line i : ℕ) → length dump ≤ 73 * line → i < 32 → dataOf dump line i ≡ 0
 data-none dump line i h k = data-pair dump line i k ∙ ap byteOf (pair-past dump (73 * line + 4 + 2 * i) (omega arith))
 
+-- it is a byte
+data-lt : (dump : List ℕ) (line i : ℕ) → dataOf dump line i < 256
+unfolding dataOf dataIn
+data-lt dump line i = split (decLt i 32)
+  where
+    split : Dec (i < 32) → dataOf dump line i < 256
+    split (yes h) = rw (getD-take, getD-drop) (bytes-small (lineAt dump line) 0 36 (2 + i))
+    split (no h) = rw (data-past dump line i (omega arith)) (omega arith)
+
 -- ---- the byte of an address
+
+-- it is a byte
+pub dumped-lt : (dump : List ℕ) (address : ℕ) → dumpedAt dump address < 256
+unfolding dumpedAt
+dumped-lt dump address =
+    either (λ n. n < 256) (leb 0x0200 address && ltb address 0x0240) (λ t. data-lt dump _ _)
+    (λ t. either (λ n. n < 256) (leb 0x1000 address && ltb address 0x3000) (λ u. data-lt dump _ _) (λ u. omega arith))
 
 pub dumped-register : (dump : List ℕ) (address : ℕ) → 0x0200 ≤ address → address < 0x0240
     → dumpedAt dump address ≡ dataOf dump ((address - 0x0200) / 32) (address % 32)

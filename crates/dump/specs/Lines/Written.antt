@@ -1,17 +1,18 @@
 -- A dump that is written: its lines one by one, and in each its page, its data and its CRC. Assumes nothing.
 use mathlib.Core.Path.{_≡_, refl, ap, _∙_}
 use mathlib.Core.List.{List, [], _∷_, _++_}
-use Prim.Native.Nat.{ℕ, zero, suc, _+_, _*_, _/_, _%_, _≤_, _<_}
-use native.Mathlib.Decide.{decLt}
+use Prim.Native.Nat.{ℕ, zero, suc, _+_, _*_, _/_, _%_, _<_}
 use native.Mathlib.Nat.{add-zero, zero-add, add-suc, suc-add}
 use native.Mathlib.Omega.{arith}
+use borrow.Author.Tests.{ltb-true}
+use lib.Dec.{ltb}
 use lib.ListN.{length, getD, take, drop, length-append}
 use lib.Seq.{take-at, take-all, drop-append-add, getD-at, getD-append-add}
+use Rattle.bits.specs.Choose.{either}
 use Rattle.crc.specs.Crc.{sentLow, sentHigh}
 use Rattle.hex.specs.Hex.{hexText}
 use Rattle.hex.specs.Hex.Text.{length-text, bytes-text}
 use Rattle.dump.specs.Lines.{pageOf, pageCrc, lineBytes, lineOf, bytesFrom, linesFrom, dumpText, lineAt, bytesIn, pageIn, dataIn, crcIn}
-use Rattle.dump.specs.Lines.Laws.{page-register, page-log, page-none}
 
 -- ---- bytes of a memory
 
@@ -111,15 +112,10 @@ module _ (page : ℕ) (bytes : List ℕ) (long : length bytes ≡ 32) where
 -- ---- the lines of a dump
 
 pub page-lt : (line : ℕ) → pageOf line < 65536
-page-lt line = first (decLt line 2)
-  where
-    second : Dec (line < 258) → 2 ≤ line → pageOf line < 65536
-    second (yes k) h = rw (page-log line h k) (omega arith)
-    second (no k) h = rw (page-none line (omega arith)) (omega arith)
-
-    first : Dec (line < 2) → pageOf line < 65536
-    first (yes h) = rw (page-register line h) (omega arith)
-    first (no h) = second (decLt line 258) (omega arith)
+unfolding pageOf
+page-lt line =
+    either (λ n. n < 65536) (ltb line 2) (λ t. omega (arith, ltb-true line 2 t))
+    (λ t. either (λ n. n < 65536) (ltb line 258) (λ u. omega (arith, ltb-true line 258 u)) (λ u. omega arith))
 
 module _ (byte : ℕ → ℕ) where
   -- the line of a place

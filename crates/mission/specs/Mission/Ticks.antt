@@ -9,10 +9,11 @@ use lib.Dec.{eqb}
 use lib.ListN.{length}
 use Rattle.bits.specs.Choose.{if_then_else_}
 use Rattle.calendar.specs.Calendar.{nextSecond}
+use Rattle.calendar.specs.Calendar.Named.{named-next}
 use Rattle.image.specs.Fields.Laws.{word-lt, word-putWord}
 use Rattle.image.specs.Registers.{eosc, mip, rate, delay, wfta, missionSamples, putDelay}
 use Rattle.mission.specs.Clock.{clockOf, putClock}
-use Rattle.mission.specs.Clock.Named.{clock-named, named-next, clock-putClock}
+use Rattle.mission.specs.Clock.Named.{clock-named, clock-putClock}
 use Rattle.mission.specs.Leaves.{word-left}
 use Rattle.mission.specs.Mission.{ended, converted, clocked, delaying, minuteOver, converting, due, missionTicked, nextMinute, nextWait, ticked, tickedCounters}
 use Rattle.mission.specs.Mission.Converts.{Converts, converts, ended-same, records-shift}

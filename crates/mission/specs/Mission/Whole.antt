@@ -7,12 +7,13 @@ use native.Mathlib.Omega.{arith}
 use lib.Dec.{ltb, eqb}
 use lib.ListN.{length, set, length-set}
 use Rattle.bits.specs.Choose.{if_then_else_}
+use Rattle.calendar.specs.Calendar.Named.{Named, named-next}
 use Rattle.calendar.specs.declared.Clock.{Clock}
 use Rattle.image.specs.Fields.{putWord, putFlag}
 use Rattle.image.specs.Fields.Laws.{Bytes, bytes-set, length-putWord, bytes-putWord, length-putFlag, bytes-putFlag}
 use Rattle.image.specs.Registers.{eosc, tlfs, mip, missionSamples, deviceSamples}
 use Rattle.mission.specs.Clock.{clockOf, putBytes, putClock}
-use Rattle.mission.specs.Clock.Named.{Named, clock-named, named-next}
+use Rattle.mission.specs.Clock.Named.{clock-named}
 use Rattle.mission.specs.Mission.{cleared, mayStart, started, stopped, deviceCounted, latestStored, alarmsHigh, alarmsLow, alarms, thfSet, tlfSet, measured, waiting, nextEntry, logged, stamped, counted, recorded, ended, converted, clocked, delaying, minuteOver, due, missionTicked, ticked, wftaCleared, forced}
 use Rattle.mission.specs.declared.Counters.{Counters}
 

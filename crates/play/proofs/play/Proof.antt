@@ -1,5 +1,5 @@
 -- `play::play` is safe and ends. The slices keep their lengths; the measure is the number of turns that are left. Assumes nothing.
-use mathlib.Core.Path.{_≡_, refl, _∙_}
+use mathlib.Core.Path.{_≡_}
 use native.Mathlib.Omega.{arith}
 use borrow.Author.Needs.{needs}
 use lib.ListN.{length}
@@ -13,64 +13,7 @@ Inv-loop image₀ block₀ out₀ turn₀ turns₀ image block out turn turns =
 abbrev μ-loop : tie.MeasureT-loop
 μ-loop image₀ block₀ out₀ turn₀ turns₀ image block out turn turns = turns
 
-loop-holds : tie.Need-loop-holds Inv-loop μ-loop
-loop-holds c = (refl, refl, refl)
-
-play-some-requires : tie.Need-play-some-requires Inv-loop μ-loop
-play-some-requires c κs = search needs
-
-sub-turns : tie.Need-sub-turns Inv-loop μ-loop
-sub-turns c = omega (arith, c .before .before .before .before .before .before .before .before .before .before .before .loop-test .taken)
-
-loop-less : tie.Need-loop-less Inv-loop μ-loop
-loop-less c = omega (arith, c .before .before .before .before .before .before .before .before .before .before .before .loop-test .taken)
-
-loop-again : tie.Need-loop-again Inv-loop μ-loop
-loop-again c =
-    let kept = c .before .before .before .before .before .before .play-some .kept in
-    let inv = c .before .before .before .before .before .before .before .before .before .before .before .before .loop .inv in
-    (kept .0 ∙ inv .0, kept .1 .1 .0 ∙ inv .1, kept .1 .1 .1 .0 ∙ inv .2)
-
-same-length : tie.Need-same-length Inv-loop μ-loop
-same-length c = c .before .before .loop .inv .0
-
-same-length-2 : tie.Need-same-length-2 Inv-loop μ-loop
-same-length-2 c = c .before .before .loop .inv .1
-
-same-length-3 : tie.Need-same-length-3 Inv-loop μ-loop
-same-length-3 c = c .before .before .loop .inv .2
-
-returns : tie.Need-returns Inv-loop μ-loop
-returns c = tt
-
-same-length-4 : tie.Need-same-length-4 Inv-loop μ-loop
-same-length-4 c = c .before .loop .inv .0
-
-same-length-5 : tie.Need-same-length-5 Inv-loop μ-loop
-same-length-5 c = c .before .loop .inv .1
-
-same-length-6 : tie.Need-same-length-6 Inv-loop μ-loop
-same-length-6 c = c .before .loop .inv .2
-
-returns-2 : tie.Need-returns-2 Inv-loop μ-loop
-returns-2 c = tt
-
 pub play-spec : {M : Type 1} → statement M
 play-spec =
-    tie.close
-    (tie.spec
-    Inv-loop
-    μ-loop
-    loop-holds
-    play-some-requires
-    sub-turns
-    loop-less
-    loop-again
-    same-length
-    same-length-2
-    same-length-3
-    returns
-    same-length-4
-    same-length-5
-    same-length-6
-    returns-2)
+    tie.close (tie.spec Inv-loop μ-loop (search needs) (search needs) (omega arith) (omega arith) (λ c. (cc, cc, cc))
+    (search needs) (search needs) (search needs) (search needs) (search needs) (search needs) (search needs) (search needs))

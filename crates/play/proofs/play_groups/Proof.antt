@@ -29,9 +29,6 @@ loop-holds : tie.Need-loop-holds Inv-loop μ-loop
 unfolding following
 loop-holds c = (omega arith, refl, refl, λ _. omega arith, refl)
 
-sub-if1 : tie.Need-sub-if1 Inv-loop μ-loop
-sub-if1 c = omega arith
-
 -- three bytes are left in the block
 room : (c : tie.Then1 Inv-loop μ-loop) → c .before .before .loop .i + 3 ≤ length (c .before .before .before .before .before .before .args .block .now)
 room c =
@@ -42,32 +39,14 @@ room c =
 short : (c : tie.Then1 Inv-loop μ-loop) → length (c .before .before .before .before .before .before .args .block .now) < 2 ^ 63
 short c = omega (arith, c .before .before .before .before .before .before .good .1 .1 .0 .1)
 
-add-reading-of : tie.Need-add-reading-of Inv-loop μ-loop
-add-reading-of c = omega arith
-
 shared-slice-read-reading-of : tie.Need-shared-slice-read-reading-of Inv-loop μ-loop
 shared-slice-read-reading-of c = omega (arith, room (c .before))
-
-add-reading-of-2 : tie.Need-add-reading-of-2 Inv-loop μ-loop
-add-reading-of-2 c = omega arith
 
 shared-slice-read-reading-of-2 : tie.Need-shared-slice-read-reading-of-2 Inv-loop μ-loop
 shared-slice-read-reading-of-2 c = omega (arith, room (c .before .before))
 
-reading-of-requires : tie.Need-reading-of-requires Inv-loop μ-loop
-reading-of-requires c κs = search needs
-
 shared-slice-read-event : tie.Need-shared-slice-read-event Inv-loop μ-loop
 shared-slice-read-event c = omega (arith, room (c .before .before .before .before .before))
-
-event-requires : tie.Need-event-requires Inv-loop μ-loop
-event-requires c κs = search needs
-
-number-requires : tie.Need-number-requires Inv-loop μ-loop
-number-requires c κs = search needs
-
-put-answer-requires : tie.Need-put-answer-requires Inv-loop μ-loop
-put-answer-requires c κs = search needs
 
 add-printed : tie.Need-add-printed Inv-loop μ-loop
 add-printed c =
@@ -96,12 +75,6 @@ loop-again c =
           ∙ rw (following-on (l .refusal) (l .image) (l .now) (drop (l .i) (c .before .before .before .before .before .before .before .before .before .before .before .before .before .before .before .before .before .before .before .before .args .block .now)) accepted) at (l .inv .4),
     )
 
-same-length : tie.Need-same-length Inv-loop μ-loop
-same-length c = c .before .loop .inv .1
-
-same-length-2 : tie.Need-same-length-2 Inv-loop μ-loop
-same-length-2 c = c .before .loop .inv .2
-
 returns : tie.Need-returns Inv-loop μ-loop
 unfolding putOf
 returns c =
@@ -114,25 +87,6 @@ returns c =
 
 pub play-groups-spec : {M : Type 1} → statement M
 play-groups-spec =
-    tie.close
-    (tie.spec
-    Inv-loop
-    μ-loop
-    loop-holds
-    sub-if1
-    add-reading-of
-    shared-slice-read-reading-of
-    add-reading-of-2
-    shared-slice-read-reading-of-2
-    reading-of-requires
-    shared-slice-read-event
-    event-requires
-    number-requires
-    put-answer-requires
-    add-printed
-    add-i
-    loop-less
-    loop-again
-    same-length
-    same-length-2
-    returns)
+    tie.close (tie.spec Inv-loop μ-loop loop-holds (omega arith) (omega arith) shared-slice-read-reading-of (omega arith)
+    shared-slice-read-reading-of-2 (search needs) shared-slice-read-event (search needs) (search needs) (search needs)
+    add-printed add-i loop-less loop-again (search needs) (search needs) returns)

@@ -6,27 +6,13 @@ use Rattle.play.specs.Play.{answerText, bitText}
 use Rattle.play.proofs.put_answer.Statement.{statement}
 use Rattle.play.proofs.put_answer.Tie as tie
 
-put-bit-requires : tie.Need-put-bit-requires
-put-bit-requires c κs = search needs
-
-put-refusal-requires : tie.Need-put-refusal-requires
-put-refusal-requires c κs = search needs
-
-same-length : tie.Need-same-length
-same-length c = search needs
-
 returns : tie.Need-returns
 unfolding answerText bitText
 returns c = (simp (c .before .before .before .before .if1 .taken), simp (c .before .before .put-bit .ensures, c .before .before .before .before .if1 .taken))
-
-same-length-2 : tie.Need-same-length-2
-same-length-2 c = search needs
 
 returns-2 : tie.Need-returns-2
 unfolding answerText refusalText
 returns-2 c = (simp (ne-eqb _ _ (c .before .before .before .before .if1 .left)), simp (c .before .before .put-refusal .ensures, ne-eqb _ _ (c .before .before .before .before .if1 .left)))
 
 pub put-answer-spec : {M : Type 1} → statement M
-put-answer-spec =
-    tie.close
-    (tie.spec put-bit-requires put-refusal-requires same-length returns same-length-2 returns-2)
+put-answer-spec = tie.close (tie.spec (search needs) (search needs) (search needs) returns (search needs) returns-2)

@@ -7,4 +7,4 @@ returns : tie.Need-returns
 returns c = rw (c .bit .ensures, c .before .byte-at .ensures)
 
 pub flag-spec : {M : Type 1} → statement M
-flag-spec = tie.close (tie.spec (λ c κs. search needs) (λ c. search needs) (λ c κs. search needs) returns)
+flag-spec = tie.close (tie.spec (search needs) (search needs) (search needs) returns)

@@ -11,12 +11,4 @@ returns c = omega (arith, c .before .byte-at .ensures, c .byte-at2 .ensures)
 
 pub rate-spec : {M : Type 1} → statement M
 rate-spec =
-    tie.close
-    (tie.spec
-    (λ c κs. search needs)
-    (λ c. search needs)
-    (λ c κs. search needs)
-    (λ c. search needs)
-    (λ c. search needs)
-    (λ c. search needs)
-    returns)
+    tie.close (tie.spec (search needs) (search needs) (search needs) (search needs) (search needs) (search needs) returns)

@@ -18,13 +18,4 @@ returns c =
     )
 
 pub stamp-spec : {M : Type 1} → statement M
-stamp-spec =
-    tie.close
-    (tie.spec
-    (λ c κs. search needs)
-    (λ c κs. search needs)
-    (λ c κs. search needs)
-    (λ c κs. search needs)
-    (λ c κs. search needs)
-    (λ c κs. search needs)
-    returns)
+stamp-spec = tie.close (search (needs, tie.spec, returns))

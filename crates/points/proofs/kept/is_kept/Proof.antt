@@ -11,41 +11,7 @@ Inv-loop image store same₀ i₀ same i = i ≤ 8832
 abbrev μ-loop : tie.MeasureT-loop
 μ-loop image store same₀ i₀ same i = 8832 - i
 
-loop-holds : tie.Need-loop-holds Inv-loop μ-loop
-loop-holds c = omega arith
-
-is-clock-requires : tie.Need-is-clock-requires Inv-loop μ-loop
-is-clock-requires c κs = search needs
-
-peek-requires : tie.Need-peek-requires Inv-loop μ-loop
-peek-requires c κs = search needs
-
-peek-requires-2 : tie.Need-peek-requires-2 Inv-loop μ-loop
-peek-requires-2 c κs = search needs
-
-add-i : tie.Need-add-i Inv-loop μ-loop
-add-i c = omega arith
-
-loop-less : tie.Need-loop-less Inv-loop μ-loop
-loop-less c = omega arith
-
-loop-again : tie.Need-loop-again Inv-loop μ-loop
-loop-again c = omega arith
-
-returns : tie.Need-returns Inv-loop μ-loop
-returns c = search needs
-
 pub is-kept-spec : {M : Type 1} → statement M
 is-kept-spec =
-    tie.close
-    (tie.spec
-    Inv-loop
-    μ-loop
-    loop-holds
-    is-clock-requires
-    peek-requires
-    peek-requires-2
-    add-i
-    loop-less
-    loop-again
-    returns)
+    tie.close (tie.spec Inv-loop μ-loop (omega arith) (search needs) (search needs) (search needs) (omega arith)
+    (omega arith) (omega arith) (search needs))
