@@ -5,16 +5,6 @@ use Rattle.image.specs.Answers.{alarmed}
 use Rattle.image.proofs.alarm.Statement.{statement}
 use Rattle.image.proofs.alarm.Tie as tie
 
-flag-requires : tie.Need-flag-requires
-flag-requires c κs = search needs
-
-returns : tie.Need-returns
-unfolding alarmed
-returns c = simp (sym (c .before .flag .ensures) ∙ c .if1 .taken)
-
-flag-requires-2 : tie.Need-flag-requires-2
-flag-requires-2 c κs = search needs
-
 returns-2 : tie.Need-returns-2
 unfolding alarmed
 returns-2 c =
@@ -22,9 +12,6 @@ returns-2 c =
       sym (c .before .before .before .flag .ensures) ∙ c .before .before .if1 .left,
       sym (c .before .flag2 .ensures) ∙ c .if2 .taken,
     )
-
-flag-requires-3 : tie.Need-flag-requires-3
-flag-requires-3 c κs = search needs
 
 returns-3 : tie.Need-returns-3
 unfolding alarmed
@@ -36,5 +23,9 @@ returns-3 c =
     )
 
 pub alarm-spec : {M : Type 1} → statement M
+unfolding alarmed
 alarm-spec =
-    tie.close (tie.spec flag-requires returns flag-requires-2 returns-2 flag-requires-3 returns-3)
+    tie.close
+    (tie.spec (search needs)
+    (λ c. simp (sym (c .before .flag .ensures) ∙ c .if1 .taken))
+    (search needs) returns-2 (search needs) returns-3)

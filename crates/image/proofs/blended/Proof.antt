@@ -5,12 +5,6 @@ use Rattle.image.specs.Stored.{blend}
 use Rattle.image.proofs.blended.Statement.{statement}
 use Rattle.image.proofs.blended.Tie as tie
 
-sub-result : tie.Need-sub-result
-sub-result c = search needs
-
-returns : tie.Need-returns
-unfolding blend
-returns c = refl
-
 pub blended-spec : {M : Type 1} → statement M
-blended-spec = tie.close (tie.spec sub-result returns)
+unfolding blend
+blended-spec = tie.close (tie.spec (search needs) (λ c. refl))

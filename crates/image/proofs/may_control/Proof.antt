@@ -6,19 +6,10 @@ use Rattle.image.specs.Answers.{checked, mayControl}
 use Rattle.image.proofs.may_control.Statement.{statement}
 use Rattle.image.proofs.may_control.Tie as tie
 
-peek-requires : tie.Need-peek-requires
-peek-requires c κs = search needs
-
-word-requires : tie.Need-word-requires
-word-requires c κs = search needs
-
-returns : tie.Need-returns
-unfolding mayControl checked
-returns c = rw (eq-eqb _ _ (sym (c .before .before .peek .ensures) ∙ c .before .if1 .taken), c .word .ensures)
-
-returns-2 : tie.Need-returns-2
-unfolding mayControl checked
-returns-2 c = rw (ne-eqb _ _ (λ e. c .if1 .left (c .before .peek .ensures ∙ e)))
-
 pub may-control-spec : {M : Type 1} → statement M
-may-control-spec = tie.close (tie.spec peek-requires word-requires returns returns-2)
+unfolding mayControl checked
+may-control-spec =
+    tie.close
+    (tie.spec (search needs) (search needs)
+    (λ c. rw (eq-eqb _ _ (sym (c .before .before .peek .ensures) ∙ c .before .if1 .taken), c .word .ensures))
+    (λ c. rw (ne-eqb _ _ (λ e. c .if1 .left (c .before .peek .ensures ∙ e)))))

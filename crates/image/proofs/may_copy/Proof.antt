@@ -6,16 +6,6 @@ use Rattle.image.specs.Answers.{mayCopy}
 use Rattle.image.proofs.may_copy.Statement.{statement}
 use Rattle.image.proofs.may_copy.Tie as tie
 
-may-control-requires : tie.Need-may-control-requires
-may-control-requires c κs = search needs
-
-returns : tie.Need-returns
-unfolding mayCopy
-returns c = simp (lt-ltb _ _ (c .before .if1 .taken), c .may-control .ensures)
-
-flag-requires : tie.Need-flag-requires
-flag-requires c κs = search needs
-
 returns-2 : tie.Need-returns-2
 unfolding mayCopy
 returns-2 c =
@@ -24,9 +14,6 @@ returns-2 c =
       lt-ltb _ _ (c .before .before .if2 .taken),
       sym (c .before .flag .ensures) ∙ c .if3 .taken,
     )
-
-may-control-requires-2 : tie.Need-may-control-requires-2
-may-control-requires-2 c κs = search needs
 
 returns-3 : tie.Need-returns-3
 unfolding mayCopy
@@ -38,18 +25,11 @@ returns-3 c =
       c .may-control2 .ensures,
     )
 
-returns-4 : tie.Need-returns-4
-unfolding mayCopy
-returns-4 c = simp (le-ltb _ _ (c .before .if1 .left), le-ltb _ _ (c .if2 .left))
-
 pub may-copy-spec : {M : Type 1} → statement M
+unfolding mayCopy
 may-copy-spec =
     tie.close
-    (tie.spec
-    may-control-requires
-    returns
-    flag-requires
-    returns-2
-    may-control-requires-2
-    returns-3
-    returns-4)
+    (tie.spec (search needs)
+    (λ c. simp (lt-ltb _ _ (c .before .if1 .taken), c .may-control .ensures))
+    (search needs) returns-2 (search needs) returns-3
+    (λ c. simp (le-ltb _ _ (c .before .if1 .left), le-ltb _ _ (c .if2 .left))))

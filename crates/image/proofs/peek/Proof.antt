@@ -5,14 +5,9 @@ use lib.ListN.{List·getD-eq-default}
 use Rattle.image.proofs.peek.Statement.{statement}
 use Rattle.image.proofs.peek.Tie as tie
 
-shared-slice-read-result : tie.Need-shared-slice-read-result
-shared-slice-read-result c = search needs
-
-returns : tie.Need-returns
-returns c = refl
-
-returns-2 : tie.Need-returns-2
-returns-2 c = sym (List·getD-eq-default (c .before .args .image .now) 0 (c .if1 .left))
-
 pub peek-spec : {M : Type 1} → statement M
-peek-spec = tie.close (tie.spec shared-slice-read-result returns returns-2)
+peek-spec =
+    tie.close
+    (tie.spec (search needs)
+    (λ c. refl)
+    (λ c. sym (List·getD-eq-default (c .before .args .image .now) 0 (c .if1 .left))))

@@ -15,24 +15,6 @@ use Rattle.image.proofs.put_flag.Tie as tie
 one-bit : (i : ℕ) → i < 8 → 1 * 2 ^ i % 256 ≡ 2 ^ i
 one-bit i h = rw (one-mul (2 ^ i)) (mod-eq-of-lt (pow-lt h))
 
-shl-one : tie.Need-shl-one
-shl-one c = search needs
-
-peek-requires : tie.Need-peek-requires
-peek-requires c κs = search needs
-
-sub-others : tie.Need-sub-others
-sub-others c = search needs
-
-poke-requires : tie.Need-poke-requires
-poke-requires c κs = search needs
-
-poke-requires-2 : tie.Need-poke-requires-2
-poke-requires-2 c κs = search needs
-
-same-length : tie.Need-same-length
-same-length c = search needs
-
 returns : tie.Need-returns
 unfolding putFlag withBit
 returns c =
@@ -46,9 +28,6 @@ returns c =
       c .before .before .before .before .if2 .taken,
       one-mul (2 ^ a .bit),
     )
-
-same-length-2 : tie.Need-same-length-2
-same-length-2 c = search needs
 
 returns-2 : tie.Need-returns-2
 unfolding putFlag withBit
@@ -65,21 +44,9 @@ returns-2 c =
       or-zero-r (bitAnd (getD (a .image .now) (a .at) 0) (255 - 2 ^ a .bit)),
     )
 
-returns-3 : tie.Need-returns-3
-unfolding putFlag
-returns-3 c = rw (le-ltb _ _ (c .if1 .left))
-
 pub put-flag-spec : {M : Type 1} → statement M
+unfolding putFlag
 put-flag-spec =
     tie.close
-    (tie.spec
-    shl-one
-    peek-requires
-    sub-others
-    poke-requires
-    poke-requires-2
-    same-length
-    returns
-    same-length-2
-    returns-2
-    returns-3)
+    (tie.spec (search needs) (search needs) (search needs) (search needs) (search needs) (search needs) returns (search needs) returns-2
+    (λ c. rw (le-ltb _ _ (c .if1 .left))))

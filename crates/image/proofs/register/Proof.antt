@@ -11,19 +11,6 @@ use Rattle.image.specs.declared.Region.the-variants.{Registers}
 use Rattle.image.proofs.register.Statement.{statement}
 use Rattle.image.proofs.register.Tie as tie
 
-add-peek : tie.Need-add-peek
-add-peek c = search needs
-
-peek-requires : tie.Need-peek-requires
-peek-requires c κs = search needs
-
-array-read-result : tie.Need-array-read-result
-array-read-result c = search needs
-
-returns : tie.Need-returns
-unfolding registerAt named
-returns c = ap (λ (b : ℕ). bitAnd b (getD named (c .before .before .before .args .offset) 0)) (c .peek .ensures)
-
 returns-2 : tie.Need-returns-2
 unfolding registerAt named
 returns-2 c =
@@ -31,4 +18,9 @@ returns-2 c =
     rw (List·getD-eq-default named 0 (c .if1 .left), and-zero-r (byteIn image (Registers (c .before .before .args .offset))))
 
 pub register-spec : {M : Type 1} → statement M
-register-spec = tie.close (tie.spec add-peek peek-requires array-read-result returns returns-2)
+unfolding registerAt named
+register-spec =
+    tie.close
+    (tie.spec (search needs) (search needs) (search needs)
+    (λ c. ap (λ (b : ℕ). bitAnd b (getD named (c .before .before .before .args .offset) 0)) (c .peek .ensures))
+    returns-2)

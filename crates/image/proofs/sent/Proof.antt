@@ -10,24 +10,6 @@ use Rattle.image.specs.Tables.{alwaysOne, registerAt}
 use Rattle.image.proofs.sent.Statement.{statement}
 use Rattle.image.proofs.sent.Tie as tie
 
-region-of-requires : tie.Need-region-of-requires
-region-of-requires c κs = search needs
-
-enum-known-offset : tie.Need-enum-known-offset
-enum-known-offset c = search needs
-
-cast-peek : tie.Need-cast-peek
-cast-peek c = search needs
-
-peek-requires : tie.Need-peek-requires
-peek-requires c κs = search needs
-
-enum-known-offset-2 : tie.Need-enum-known-offset-2
-enum-known-offset-2 c = search needs
-
-cast-o : tie.Need-cast-o
-cast-o c = search needs
-
 returns : tie.Need-returns
 unfolding sentIn sentByte
 returns c =
@@ -35,40 +17,10 @@ returns c =
     let there = sym (c .before .before .before .before .region-of .ensures) ∙ c .before .before .offset2 .given .1 in
     sym (sent-in (a .image .now) (a .code) (a .address) there ∙ rw (eq-eqb _ _ (c .if1 .taken)))
 
-register-requires : tie.Need-register-requires
-register-requires c κs = search needs
-
 array-read-result : tie.Need-array-read-result
 array-read-result c =
     register-offset-lt _
     (sym (c .before .before .before .before .before .region-of .ensures) ∙ c .before .before .before .offset2 .given .1)
-
-enum-known-offset-3 : tie.Need-enum-known-offset-3
-enum-known-offset-3 c = search needs
-
-cast-peek-2 : tie.Need-cast-peek-2
-cast-peek-2 c = search needs
-
-add-peek : tie.Need-add-peek
-add-peek c = search needs
-
-peek-requires-2 : tie.Need-peek-requires-2
-peek-requires-2 c κs = search needs
-
-enum-told : tie.Need-enum-told
-enum-told c = search needs
-
-enum-known-offset-4 : tie.Need-enum-known-offset-4
-enum-known-offset-4 c = search needs
-
-cast-peek-3 : tie.Need-cast-peek-3
-cast-peek-3 c = search needs
-
-add-peek-2 : tie.Need-add-peek-2
-add-peek-2 c = search needs
-
-peek-requires-3 : tie.Need-peek-requires-3
-peek-requires-3 c κs = search needs
 
 returns-2 : tie.Need-returns-2
 unfolding sentIn sentByte
@@ -108,27 +60,6 @@ returns-6 c =
 pub sent-spec : {M : Type 1} → statement M
 sent-spec =
     tie.close
-    (tie.spec
-    region-of-requires
-    enum-known-offset
-    cast-peek
-    peek-requires
-    enum-known-offset-2
-    cast-o
-    returns
-    register-requires
-    array-read-result
-    enum-known-offset-3
-    cast-peek-2
-    add-peek
-    peek-requires-2
-    enum-told
-    enum-known-offset-4
-    cast-peek-3
-    add-peek-2
-    peek-requires-3
-    returns-2
-    returns-3
-    returns-4
-    returns-5
-    returns-6)
+    (tie.spec (search needs) (search needs) (search needs) (search needs) (search needs) (search needs) returns (search needs)
+    array-read-result (search needs) (search needs) (search needs) (search needs) (search needs) (search needs) (search needs)
+    (search needs) (search needs) returns-2 returns-3 returns-4 returns-5 returns-6)

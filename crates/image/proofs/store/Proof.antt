@@ -10,63 +10,6 @@ use Rattle.image.specs.Tables.{writable}
 use Rattle.image.proofs.store.Statement.{statement}
 use Rattle.image.proofs.store.Tie as tie
 
-region-of-requires : tie.Need-region-of-requires
-region-of-requires c κs = search needs
-
-enum-known-offset : tie.Need-enum-known-offset
-enum-known-offset c = search needs
-
-cast-poke : tie.Need-cast-poke
-cast-poke c = search needs
-
-poke-requires : tie.Need-poke-requires
-poke-requires c κs = search needs
-
-enum-known-offset-2 : tie.Need-enum-known-offset-2
-enum-known-offset-2 c = search needs
-
-cast-o : tie.Need-cast-o
-cast-o c = search needs
-
-array-read-blended : tie.Need-array-read-blended
-array-read-blended c = register-offset-lt _ (sym (c .before .before .before .region-of .ensures) ∙ c .before .offset2 .given .1)
-
-add-peek : tie.Need-add-peek
-add-peek c = search needs
-
-peek-requires : tie.Need-peek-requires
-peek-requires c κs = search needs
-
-blended-requires : tie.Need-blended-requires
-blended-requires c κs = search needs
-
-add-poke : tie.Need-add-poke
-add-poke c = search needs
-
-poke-requires-2 : tie.Need-poke-requires-2
-poke-requires-2 c κs = search needs
-
-enum-known-offset-3 : tie.Need-enum-known-offset-3
-enum-known-offset-3 c = search needs
-
-cast-poke-2 : tie.Need-cast-poke-2
-cast-poke-2 c = search needs
-
-add-poke-2 : tie.Need-add-poke-2
-add-poke-2 c = search needs
-
-poke-requires-3 : tie.Need-poke-requires-3
-poke-requires-3 c κs = search needs
-
-enum-told : tie.Need-enum-told
-enum-told c = search needs
-
-enum-told-2 : tie.Need-enum-told-2
-enum-told-2 c = search needs
-
-same-length : tie.Need-same-length
-same-length c = search needs
-
 returns : tie.Need-returns
 unfolding storedIn storedByte
 returns c =
@@ -75,9 +18,6 @@ returns c =
     sym (c .before .before .before .before .before .before .before .region-of .ensures)
     ∙ c .before .before .before .before .before .offset .given .1 in
     c .before .before .poke .ensures ∙ sym (stored-in (a .image .now) (a .address) (a .b) there)
-
-same-length-2 : tie.Need-same-length-2
-same-length-2 c = search needs
 
 returns-2 : tie.Need-returns-2
 unfolding storedIn storedByte writable
@@ -89,9 +29,6 @@ returns-2 c =
     c .before .before .poke2 .ensures
     ∙ rw (c .before .before .before .before .blended .ensures, c .before .before .before .before .before .peek .ensures)
     (sym (stored-in (a .image .now) (a .address) (a .b) there))
-
-same-length-3 : tie.Need-same-length-3
-same-length-3 c = search needs
 
 returns-3 : tie.Need-returns-3
 unfolding storedIn storedByte
@@ -119,30 +56,8 @@ returns-5 c =
 pub store-spec : {M : Type 1} → statement M
 store-spec =
     tie.close
-    (tie.spec
-    region-of-requires
-    enum-known-offset
-    cast-poke
-    poke-requires
-    enum-known-offset-2
-    cast-o
-    array-read-blended
-    add-peek
-    peek-requires
-    blended-requires
-    add-poke
-    poke-requires-2
-    enum-known-offset-3
-    cast-poke-2
-    add-poke-2
-    poke-requires-3
-    enum-told
-    enum-told-2
-    same-length
-    returns
-    same-length-2
-    returns-2
-    same-length-3
-    returns-3
-    returns-4
+    (tie.spec (search needs) (search needs) (search needs) (search needs) (search needs) (search needs)
+    (λ c. register-offset-lt _ (sym (c .before .before .before .region-of .ensures) ∙ c .before .offset2 .given .1))
+    (search needs) (search needs) (search needs) (search needs) (search needs) (search needs) (search needs) (search needs)
+    (search needs) (search needs) (search needs) (search needs) returns (search needs) returns-2 (search needs) returns-3 returns-4
     returns-5)

@@ -5,37 +5,6 @@ use borrow.Author.Needs.{needs}
 use Rattle.mission.proofs.clear.Statement.{statement}
 use Rattle.mission.proofs.clear.Tie as tie
 
-flag-requires : tie.Need-flag-requires
-flag-requires c κs = search needs
-
-same-length : tie.Need-same-length
-same-length c = search needs
-
-returns : tie.Need-returns
-unfolding cleared
-returns c = simp (← (c .before .flag .ensures), c .if1 .taken)
-
-put-word-requires : tie.Need-put-word-requires
-put-word-requires c κs = search needs
-
-put-word-requires-2 : tie.Need-put-word-requires-2
-put-word-requires-2 c κs = search needs
-
-put-flag-requires : tie.Need-put-flag-requires
-put-flag-requires c κs = search needs
-
-put-flag-requires-2 : tie.Need-put-flag-requires-2
-put-flag-requires-2 c κs = search needs
-
-put-flag-requires-3 : tie.Need-put-flag-requires-3
-put-flag-requires-3 c κs = search needs
-
-put-flag-requires-4 : tie.Need-put-flag-requires-4
-put-flag-requires-4 c κs = search needs
-
-same-length-2 : tie.Need-same-length-2
-same-length-2 c = search needs
-
 returns-2 : tie.Need-returns-2
 unfolding cleared
 returns-2 c =
@@ -59,17 +28,9 @@ returns-2 c =
     )
 
 pub clear-spec : {M : Type 1} → statement M
+unfolding cleared
 clear-spec =
     tie.close
-    (tie.spec
-    flag-requires
-    same-length
-    returns
-    put-word-requires
-    put-word-requires-2
-    put-flag-requires
-    put-flag-requires-2
-    put-flag-requires-3
-    put-flag-requires-4
-    same-length-2
-    returns-2)
+    (tie.spec (search needs) (search needs)
+    (λ c. simp (← (c .before .flag .ensures), c .if1 .taken))
+    (search needs) (search needs) (search needs) (search needs) (search needs) (search needs) (search needs) returns-2)

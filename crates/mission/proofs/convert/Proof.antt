@@ -5,37 +5,6 @@ use borrow.Author.Needs.{needs}
 use Rattle.mission.proofs.convert.Statement.{statement}
 use Rattle.mission.proofs.convert.Tie as tie
 
-flag-requires : tie.Need-flag-requires
-flag-requires c κs = search needs
-
-same-length : tie.Need-same-length
-same-length c = search needs
-
-returns : tie.Need-returns
-unfolding forced
-returns c = simp (← (c .before .flag .ensures), c .if1 .taken)
-
-cast-put-word : tie.Need-cast-put-word
-cast-put-word c = search needs
-
-mul-put-word : tie.Need-mul-put-word
-mul-put-word c = search needs
-
-put-word-requires : tie.Need-put-word-requires
-put-word-requires c κs = search needs
-
-count-device-requires : tie.Need-count-device-requires
-count-device-requires c κs = search needs
-
-put-flag-requires : tie.Need-put-flag-requires
-put-flag-requires c κs = search needs
-
-clear-wfta-requires : tie.Need-clear-wfta-requires
-clear-wfta-requires c κs = search needs
-
-same-length-2 : tie.Need-same-length-2
-same-length-2 c = search needs
-
 returns-2 : tie.Need-returns-2
 unfolding forced
 returns-2 c =
@@ -55,17 +24,9 @@ returns-2 c =
     )
 
 pub convert-spec : {M : Type 1} → statement M
+unfolding forced
 convert-spec =
     tie.close
-    (tie.spec
-    flag-requires
-    same-length
-    returns
-    cast-put-word
-    mul-put-word
-    put-word-requires
-    count-device-requires
-    put-flag-requires
-    clear-wfta-requires
-    same-length-2
-    returns-2)
+    (tie.spec (search needs) (search needs)
+    (λ c. simp (← (c .before .flag .ensures), c .if1 .taken))
+    (search needs) (search needs) (search needs) (search needs) (search needs) (search needs) (search needs) returns-2)

@@ -1,5 +1,5 @@
 -- `mission::in_range` meets its contract: one test after the other.
--- `c1` is what was known one places before `c`. Assumes nothing.
+-- `c1` is what was known one place before `c`. Assumes nothing.
 use borrow.Author.Tests.{lt-leb, le-leb, le-ltb, lt-ltb}
 use Rattle.mission.specs.Mission.{countersInRange}
 use Rattle.mission.proofs.in_range.Statement.{statement}

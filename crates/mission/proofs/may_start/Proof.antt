@@ -6,16 +6,6 @@ use borrow.Author.Needs.{needs}
 use Rattle.mission.proofs.may_start.Statement.{statement}
 use Rattle.mission.proofs.may_start.Tie as tie
 
-flag-requires : tie.Need-flag-requires
-flag-requires c κs = search needs
-
-returns : tie.Need-returns
-unfolding mayStart
-returns c = simp (← (c .before .flag .ensures), not-true (c .before .flag .result) (c .if1 .taken))
-
-flag-requires-2 : tie.Need-flag-requires-2
-flag-requires-2 c κs = search needs
-
 returns-2 : tie.Need-returns-2
 unfolding mayStart
 returns-2 c =
@@ -23,9 +13,6 @@ returns-2 c =
     let c2 = c1 .before in
     let c3 = c2 .before in
     simp (← (c3 .flag .ensures), not-false (c3 .flag .result) (c2 .if1 .left), ← (c1 .flag2 .ensures), c .if2 .taken)
-
-flag-requires-3 : tie.Need-flag-requires-3
-flag-requires-3 c κs = search needs
 
 returns-3 : tie.Need-returns-3
 unfolding mayStart
@@ -43,9 +30,6 @@ returns-3 c =
       ← (c1 .flag3 .ensures),
       not-true (c1 .flag3 .result) (c .if3 .taken),
     )
-
-rate-requires : tie.Need-rate-requires
-rate-requires c κs = search needs
 
 returns-4 : tie.Need-returns-4
 unfolding mayStart
@@ -67,14 +51,9 @@ returns-4 c =
     )
 
 pub may-start-spec : {M : Type 1} → statement M
+unfolding mayStart
 may-start-spec =
     tie.close
-    (tie.spec
-    flag-requires
-    returns
-    flag-requires-2
-    returns-2
-    flag-requires-3
-    returns-3
-    rate-requires
-    returns-4)
+    (tie.spec (search needs)
+    (λ c. simp (← (c .before .flag .ensures), not-true (c .before .flag .result) (c .if1 .taken)))
+    (search needs) returns-2 (search needs) returns-3 (search needs) returns-4)

@@ -7,34 +7,6 @@ use borrow.Author.Needs.{needs}
 use Rattle.mission.proofs.start.Statement.{statement}
 use Rattle.mission.proofs.start.Tie as tie
 
-may-start-requires : tie.Need-may-start-requires
-may-start-requires c κs = search needs
-
-same-length : tie.Need-same-length
-same-length c = search needs
-
-returns : tie.Need-returns
-unfolding started startedCounters
-returns c = simp (← (c .before .may-start .ensures), not-true (c .before .may-start .result) (c .if1 .taken)) (refl, refl)
-
-flag-requires : tie.Need-flag-requires
-flag-requires c κs = search needs
-
-put-flag-requires : tie.Need-put-flag-requires
-put-flag-requires c κs = search needs
-
-put-flag-requires-2 : tie.Need-put-flag-requires-2
-put-flag-requires-2 c κs = search needs
-
-put-flag-requires-3 : tie.Need-put-flag-requires-3
-put-flag-requires-3 c κs = search needs
-
-put-flag-requires-4 : tie.Need-put-flag-requires-4
-put-flag-requires-4 c κs = search needs
-
-same-length-2 : tie.Need-same-length-2
-same-length-2 c = search needs
-
 returns-2 : tie.Need-returns-2
 unfolding started startedCounters
 returns-2 c =
@@ -59,16 +31,9 @@ returns-2 c =
     )
 
 pub start-spec : {M : Type 1} → statement M
+unfolding started startedCounters
 start-spec =
     tie.close
-    (tie.spec
-    may-start-requires
-    same-length
-    returns
-    flag-requires
-    put-flag-requires
-    put-flag-requires-2
-    put-flag-requires-3
-    put-flag-requires-4
-    same-length-2
-    returns-2)
+    (tie.spec (search needs) (search needs)
+    (λ c. simp (← (c .before .may-start .ensures), not-true (c .before .may-start .result) (c .if1 .taken)) (refl, refl))
+    (search needs) (search needs) (search needs) (search needs) (search needs) (search needs) returns-2)

@@ -8,30 +8,12 @@ use borrow.Author.Needs.{needs}
 use Rattle.mission.proofs.tick.Statement.{statement}
 use Rattle.mission.proofs.tick.Tie as tie
 
-advance-requires : tie.Need-advance-requires
-advance-requires c κs = search needs
-
-flag-requires : tie.Need-flag-requires
-flag-requires c κs = search needs
-
-same-length : tie.Need-same-length
-same-length c = search needs
-
 returns : tie.Need-returns
 unfolding ticked tickedCounters missionTicked nextMinute nextWait delaying converting due minuteOver
 returns c =
     let c1 = c .before in
     let c5 = c1 .before .before .before .before in
     simp (← (c5 .advance .ensures), ← (c1 .flag .ensures), not-true (c1 .flag .result) (c .if1 .taken)) (refl, refl)
-
-word-requires : tie.Need-word-requires
-word-requires c κs = search needs
-
-add-after : tie.Need-add-after
-add-after c = search needs
-
-same-length-2 : tie.Need-same-length-2
-same-length-2 c = search needs
 
 returns-2 : tie.Need-returns-2
 unfolding ticked tickedCounters missionTicked nextMinute nextWait delaying converting due minuteOver
@@ -50,15 +32,6 @@ returns-2 c =
       ne-eqb _ _ (c3 .if2 .taken),
       lt-leb _ _ (c1 .if3 .taken),
     ) (refl, refl)
-
-sub-put-word : tie.Need-sub-put-word
-sub-put-word c = search needs
-
-put-word-requires : tie.Need-put-word-requires
-put-word-requires c κs = search needs
-
-same-length-3 : tie.Need-same-length-3
-same-length-3 c = search needs
 
 returns-3 : tie.Need-returns-3
 unfolding ticked tickedCounters missionTicked nextMinute nextWait delaying converting due minuteOver
@@ -80,12 +53,6 @@ returns-3 c =
       c2 .put-word .ensures,
     ) (refl, refl)
 
-rate-requires : tie.Need-rate-requires
-rate-requires c κs = search needs
-
-same-length-4 : tie.Need-same-length-4
-same-length-4 c = search needs
-
 returns-4 : tie.Need-returns-4
 unfolding ticked tickedCounters missionTicked nextMinute nextWait delaying converting due minuteOver
 returns-4 c =
@@ -104,12 +71,6 @@ returns-4 c =
       ← (c1 .rate .ensures),
       eq-eqb _ _ (c .if4 .taken),
     ) (refl, refl)
-
-sub-after : tie.Need-sub-after
-sub-after c = search needs
-
-same-length-5 : tie.Need-same-length-5
-same-length-5 c = search needs
 
 returns-5 : tie.Need-returns-5
 unfolding ticked tickedCounters missionTicked nextMinute nextWait delaying converting due minuteOver
@@ -133,20 +94,11 @@ returns-5 c =
       ne-eqb _ _ (c1 .if5 .taken),
     ) (refl, refl)
 
-period-requires : tie.Need-period-requires
-period-requires c κs = search needs
-
 sub-after-2 : tie.Need-sub-after-2
 sub-after-2 c =
     let c4 = c .before .before .before .before in
     let c5 = c4 .before in
     rw (c .period .ensures) (period-pos _ (λ e. c4 .if4 .left (c5 .rate .ensures ∙ e)))
-
-make-requires : tie.Need-make-requires
-make-requires c κs = search needs
-
-same-length-6 : tie.Need-same-length-6
-same-length-6 c = search needs
 
 returns-6 : tie.Need-returns-6
 unfolding ticked tickedCounters missionTicked nextMinute nextWait delaying converting due minuteOver
@@ -177,27 +129,6 @@ returns-6 c =
 pub tick-spec : {M : Type 1} → statement M
 tick-spec =
     tie.close
-    (tie.spec
-    advance-requires
-    flag-requires
-    same-length
-    returns
-    word-requires
-    add-after
-    same-length-2
-    returns-2
-    sub-put-word
-    put-word-requires
-    same-length-3
-    returns-3
-    rate-requires
-    same-length-4
-    returns-4
-    sub-after
-    same-length-5
-    returns-5
-    period-requires
-    sub-after-2
-    make-requires
-    same-length-6
-    returns-6)
+    (tie.spec (search needs) (search needs) (search needs) returns (search needs) (search needs) (search needs) returns-2 (search needs)
+    (search needs) (search needs) returns-3 (search needs) (search needs) returns-4 (search needs) (search needs) returns-5
+    (search needs) sub-after-2 (search needs) (search needs) returns-6)

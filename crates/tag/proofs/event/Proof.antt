@@ -10,18 +10,9 @@ use Rattle.tag.specs.Tag.Laws.{event-slot, event-reset, event-tick, even
 use Rattle.tag.proofs.event.Statement.{statement}
 use Rattle.tag.proofs.event.Tie as tie
 
-refuse-requires : tie.Need-refuse-requires
-refuse-requires c κs = search needs
-
 returns : tie.Need-returns
 unfolding step
 returns c = (simp (c .refuse .ensures, ne-eqb _ _ (c .before .if1 .taken)), simp (ne-eqb _ _ (c .before .if1 .taken)))
-
-in-range-requires : tie.Need-in-range-requires
-in-range-requires c κs = search needs
-
-refuse-requires-2 : tie.Need-refuse-requires-2
-refuse-requires-2 c κs = search needs
 
 returns-2 : tie.Need-returns-2
 unfolding step
@@ -43,26 +34,11 @@ by-code : (c : tie.Else2) →
 unfolding step
 by-code c = simp (eq-eqb _ _ (c .before .before .if1 .left), ← c .before .in-range .ensures, c .if2 .left)
 
-reset-requires : tie.Need-reset-requires
-reset-requires c κs = search needs
-
-refuse-requires-3 : tie.Need-refuse-requires-3
-refuse-requires-3 c κs = search needs
-
 returns-3 : tie.Need-returns-3
 returns-3 c =
     let tick = c .before .before in
     let so = by-code (tick .before) ∙ event-reading _ _ _ _ (tick .match .keys2) (c .before .if3 .taken) in
     (c .refuse3 .ensures ∙ sym (ap answeredOf so), sym (ap imageOf so))
-
-tick-requires : tie.Need-tick-requires
-tick-requires c κs = search needs
-
-slot-requires : tie.Need-slot-requires
-slot-requires c κs = search needs
-
-refuse-requires-4 : tie.Need-refuse-requires-4
-refuse-requires-4 c κs = search needs
 
 returns-4 : tie.Need-returns-4
 unfolding resetTag
@@ -70,18 +46,12 @@ returns-4 c =
     let so = by-code (c .before .before) ∙ event-reset _ _ _ _ (c .before .match .keys1) in
     (c .reset .ensures ∙ sym (ap answeredOf so), sym (ap imageOf so))
 
-same-length : tie.Need-same-length
-same-length c = search needs
-
 returns-5 : tie.Need-returns-5
 returns-5 c =
     let done = c .before .before .tick .ensures in
     let small = c .before .before .before .before in
     let so = by-code (small .before .before) ∙ event-tick _ _ _ _ (small .before .match .keys2) (small .if3 .left) in
     (done .0 ∙ sym (ap answeredOf so), done .1 ∙ sym (ap imageOf so))
-
-same-length-2 : tie.Need-same-length-2
-same-length-2 c = search needs
 
 returns-6 : tie.Need-returns-6
 returns-6 c =
@@ -99,21 +69,5 @@ returns-7 c =
 pub event-spec : {M : Type 1} → statement M
 event-spec =
     tie.close
-    (tie.spec
-    refuse-requires
-    returns
-    in-range-requires
-    refuse-requires-2
-    returns-2
-    reset-requires
-    refuse-requires-3
-    returns-3
-    tick-requires
-    slot-requires
-    refuse-requires-4
-    returns-4
-    same-length
-    returns-5
-    same-length-2
-    returns-6
-    returns-7)
+    (tie.spec (search needs) returns (search needs) (search needs) returns-2 (search needs) (search needs) returns-3 (search needs)
+    (search needs) (search needs) returns-4 (search needs) returns-5 (search needs) returns-6 returns-7)

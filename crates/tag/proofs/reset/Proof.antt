@@ -4,15 +4,6 @@ use Rattle.tag.specs.Tag.{resetTag}
 use Rattle.tag.proofs.reset.Statement.{statement}
 use Rattle.tag.proofs.reset.Tie as tie
 
-reset-requires : tie.Need-reset-requires
-reset-requires c κs = search needs
-
-accept-requires : tie.Need-accept-requires
-accept-requires c κs = search needs
-
-returns : tie.Need-returns
-unfolding resetTag
-returns c = simp (c .accept .ensures, c .before .reset .ensures)
-
 pub reset-spec : {M : Type 1} → statement M
-reset-spec = tie.close (tie.spec reset-requires accept-requires returns)
+unfolding resetTag
+reset-spec = tie.close (tie.spec (search needs) (search needs) (λ c. simp (c .accept .ensures, c .before .reset .ensures)))

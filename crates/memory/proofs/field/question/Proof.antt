@@ -3,23 +3,10 @@ use borrow.Author.Needs.{needs}
 use Rattle.memory.proofs.field.question.Statement.{statement}
 use Rattle.memory.proofs.field.question.Tie as tie
 
-enum-told : tie.Need-enum-told
-enum-told c = search needs
-
-enum-told-2 : tie.Need-enum-told-2
-enum-told-2 c = search needs
-
-enum-told-3 : tie.Need-enum-told-3
-enum-told-3 c = search needs
-
-returns : tie.Need-returns
-returns c = simp (c .enum-told .given .1)
-
-returns-2 : tie.Need-returns-2
-returns-2 c = simp (c .enum-told2 .given .1)
-
-returns-3 : tie.Need-returns-3
-returns-3 c = simp (c .enum-told3 .given .1)
-
 pub question-spec : {M : Type 1} → statement M
-question-spec = tie.close (tie.spec enum-told enum-told-2 enum-told-3 returns returns-2 returns-3)
+question-spec =
+    tie.close
+    (tie.spec (search needs) (search needs) (search needs)
+    (λ c. simp (c .enum-told .given .1))
+    (λ c. simp (c .enum-told2 .given .1))
+    (λ c. simp (c .enum-told3 .given .1)))

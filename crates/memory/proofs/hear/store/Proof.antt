@@ -8,13 +8,6 @@ use Rattle.memory.specs.Hear.{stored}
 use Rattle.memory.proofs.hear.store.Statement.{statement}
 use Rattle.memory.proofs.hear.store.Tie as tie
 
-array-write-pad : tie.Need-array-write-pad
-array-write-pad c = search needs
-
-returns : tie.Need-returns
-unfolding stored
-returns c = refl
-
 returns-2 : tie.Need-returns-2
 unfolding stored
 returns-2 c =
@@ -23,4 +16,5 @@ returns-2 c =
     simp (set-out (held .pad) (c .before .before .args .place) (c .before .before .args .byte) (omega arith))
 
 pub store-spec : {M : Type 1} → statement M
-store-spec = tie.close (tie.spec array-write-pad returns returns-2)
+unfolding stored
+store-spec = tie.close (tie.spec (search needs) (λ c. refl) returns-2)

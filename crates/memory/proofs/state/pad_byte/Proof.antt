@@ -7,13 +7,6 @@ use Rattle.memory.specs.Bus.{padByte}
 use Rattle.memory.proofs.state.pad_byte.Statement.{statement}
 use Rattle.memory.proofs.state.pad_byte.Tie as tie
 
-array-read-result : tie.Need-array-read-result
-array-read-result c = search needs
-
-returns : tie.Need-returns
-unfolding padByte
-returns c = refl
-
 returns-2 : tie.Need-returns-2
 unfolding padByte
 returns-2 c =
@@ -22,4 +15,5 @@ returns-2 c =
     simp (List·getD-eq-default pad 0 {n = c .before .before .args .place} (omega arith))
 
 pub pad-byte-spec : {M : Type 1} → statement M
-pad-byte-spec = tie.close (tie.spec array-read-result returns returns-2)
+unfolding padByte
+pad-byte-spec = tie.close (tie.spec (search needs) (λ c. refl) returns-2)

@@ -13,12 +13,6 @@ digit-le : (b : Bool) → digit b ≤ 1
 digit-le true = lit≤ tt
 digit-le false = lit≤ tt
 
-flag-requires : tie.Need-flag-requires
-flag-requires c κs = search needs
-
-flag-requires-2 : tie.Need-flag-requires-2
-flag-requires-2 c κs = search needs
-
 add-result : tie.Need-add-result
 add-result c =
     let held = c .before .before .args .held in
@@ -29,10 +23,9 @@ add-result-2 c =
     let held = c .before .before .before .args .held in
     omega (arith, digit-le (held .aa), digit-le (held .pf))
 
-returns : tie.Need-returns
-unfolding statusByte
-returns c = simp (c .before .flag2 .ensures, c .before .before .flag .ensures)
-
 pub status-byte-spec : {M : Type 1} → statement M
+unfolding statusByte
 status-byte-spec =
-    tie.close (tie.spec flag-requires flag-requires-2 add-result add-result-2 returns)
+    tie.close
+    (tie.spec (search needs) (search needs) add-result add-result-2
+    (λ c. simp (c .before .flag2 .ensures, c .before .before .flag .ensures)))

@@ -6,42 +6,6 @@ use borrow.Author.Needs.{needs}
 use Rattle.mission.proofs.clock.put.Statement.{statement}
 use Rattle.mission.proofs.clock.put.Tie as tie
 
-poke-requires : tie.Need-poke-requires
-poke-requires c κs = search needs
-
-add-poke : tie.Need-add-poke
-add-poke c = search needs
-
-poke-requires-2 : tie.Need-poke-requires-2
-poke-requires-2 c κs = search needs
-
-add-poke-2 : tie.Need-add-poke-2
-add-poke-2 c = search needs
-
-poke-requires-3 : tie.Need-poke-requires-3
-poke-requires-3 c κs = search needs
-
-add-poke-3 : tie.Need-add-poke-3
-add-poke-3 c = search needs
-
-poke-requires-4 : tie.Need-poke-requires-4
-poke-requires-4 c κs = search needs
-
-add-poke-4 : tie.Need-add-poke-4
-add-poke-4 c = search needs
-
-poke-requires-5 : tie.Need-poke-requires-5
-poke-requires-5 c κs = search needs
-
-add-poke-5 : tie.Need-add-poke-5
-add-poke-5 c = search needs
-
-poke-requires-6 : tie.Need-poke-requires-6
-poke-requires-6 c κs = search needs
-
-same-length : tie.Need-same-length
-same-length c = search needs
-
 returns : tie.Need-returns
 unfolding putClock putBytes
 returns c =
@@ -68,17 +32,5 @@ returns c =
 pub put-spec : {M : Type 1} → statement M
 put-spec =
     tie.close
-    (tie.spec
-    poke-requires
-    add-poke
-    poke-requires-2
-    add-poke-2
-    poke-requires-3
-    add-poke-3
-    poke-requires-4
-    add-poke-4
-    poke-requires-5
-    add-poke-5
-    poke-requires-6
-    same-length
-    returns)
+    (tie.spec (search needs) (search needs) (search needs) (search needs) (search needs) (search needs) (search needs) (search needs)
+    (search needs) (search needs) (search needs) (search needs) returns)

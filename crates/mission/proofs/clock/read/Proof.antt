@@ -1,27 +1,9 @@
 -- `mission::clock::read` meets its contract.
--- `c1` is what was known one places before `c`. Assumes nothing.
+-- `c1` is what was known one place before `c`. Assumes nothing.
 use Rattle.mission.specs.Clock.{clockOf}
 use borrow.Author.Needs.{needs}
 use Rattle.mission.proofs.clock.read.Statement.{statement}
 use Rattle.mission.proofs.clock.read.Tie as tie
-
-register-requires : tie.Need-register-requires
-register-requires c κs = search needs
-
-register-requires-2 : tie.Need-register-requires-2
-register-requires-2 c κs = search needs
-
-register-requires-3 : tie.Need-register-requires-3
-register-requires-3 c κs = search needs
-
-register-requires-4 : tie.Need-register-requires-4
-register-requires-4 c κs = search needs
-
-register-requires-5 : tie.Need-register-requires-5
-register-requires-5 c κs = search needs
-
-register-requires-6 : tie.Need-register-requires-6
-register-requires-6 c κs = search needs
 
 returns : tie.Need-returns
 unfolding clockOf
@@ -41,13 +23,4 @@ returns c =
     )
 
 pub read-spec : {M : Type 1} → statement M
-read-spec =
-    tie.close
-    (tie.spec
-    register-requires
-    register-requires-2
-    register-requires-3
-    register-requires-4
-    register-requires-5
-    register-requires-6
-    returns)
+read-spec = tie.close (tie.spec (search needs) (search needs) (search needs) (search needs) (search needs) (search needs) returns)

@@ -1,20 +1,10 @@
 -- `mission::conversion::ended` meets its contract: one test after the other.
--- `c1` is what was known one places before `c`. Assumes nothing.
+-- `c1` is what was known one place before `c`. Assumes nothing.
 use borrow.Author.Tests.{eq-eqb, ne-eqb}
 use Rattle.mission.specs.Mission.{ended}
 use borrow.Author.Needs.{needs}
 use Rattle.mission.proofs.conversion.ended.Statement.{statement}
 use Rattle.mission.proofs.conversion.ended.Tie as tie
-
-samples-requires : tie.Need-samples-requires
-samples-requires c κs = search needs
-
-returns : tie.Need-returns
-unfolding ended
-returns c = simp (← (c .before .samples .ensures), eq-eqb _ _ (c .if1 .taken))
-
-flag-requires : tie.Need-flag-requires
-flag-requires c κs = search needs
 
 returns-2 : tie.Need-returns-2
 unfolding ended
@@ -23,12 +13,6 @@ returns-2 c =
     let c2 = c1 .before in
     let c3 = c2 .before in
     simp (← (c3 .samples .ensures), ne-eqb _ _ (c2 .if1 .left), ← (c1 .flag .ensures), c .if2 .taken)
-
-places-requires : tie.Need-places-requires
-places-requires c κs = search needs
-
-next-entry-requires : tie.Need-next-entry-requires
-next-entry-requires c κs = search needs
 
 returns-3 : tie.Need-returns-3
 unfolding ended
@@ -48,13 +32,9 @@ returns-3 c =
     )
 
 pub ended-spec : {M : Type 1} → statement M
+unfolding ended
 ended-spec =
     tie.close
-    (tie.spec
-    samples-requires
-    returns
-    flag-requires
-    returns-2
-    places-requires
-    next-entry-requires
-    returns-3)
+    (tie.spec (search needs)
+    (λ c. simp (← (c .before .samples .ensures), eq-eqb _ _ (c .if1 .taken)))
+    (search needs) returns-2 (search needs) (search needs) returns-3)

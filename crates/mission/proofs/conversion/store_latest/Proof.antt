@@ -5,21 +5,6 @@ use borrow.Author.Needs.{needs}
 use Rattle.mission.proofs.conversion.store_latest.Statement.{statement}
 use Rattle.mission.proofs.conversion.store_latest.Tie as tie
 
-resolved-requires : tie.Need-resolved-requires
-resolved-requires c κs = search needs
-
-cast-put-word : tie.Need-cast-put-word
-cast-put-word c = search needs
-
-mul-put-word : tie.Need-mul-put-word
-mul-put-word c = search needs
-
-put-word-requires : tie.Need-put-word-requires
-put-word-requires c κs = search needs
-
-same-length : tie.Need-same-length
-same-length c = search needs
-
 returns : tie.Need-returns
 unfolding latestStored
 returns c =
@@ -28,6 +13,4 @@ returns c =
     simp (c2 .put-word .ensures, c4 .resolved .ensures)
 
 pub store-latest-spec : {M : Type 1} → statement M
-store-latest-spec =
-    tie.close
-    (tie.spec resolved-requires cast-put-word mul-put-word put-word-requires same-length returns)
+store-latest-spec = tie.close (tie.spec (search needs) (search needs) (search needs) (search needs) (search needs) returns)
