@@ -7,12 +7,6 @@ use Rattle.bits.specs.Bits.{bitOf}
 use Rattle.crc.proofs.crc16_bit.Statement.{statement}
 use Rattle.crc.proofs.crc16_bit.Tie as tie
 
-cast-crc16-low : tie.Need-cast-crc16-low
-cast-crc16-low c = search needs
-
-crc16-low-requires : tie.Need-crc16-low-requires
-crc16-low-requires c κs = search needs
-
 own-lowest : (b : Bool) → bitOf (boolByte b) 0 ≡ b
 unfolding bitOf
 own-lowest true = refl
@@ -22,4 +16,4 @@ returns : tie.Need-returns
 returns c = rw (own-lowest) at (c .crc16-low .ensures)
 
 pub crc16-bit-spec : {M : Type 1} → statement M
-crc16-bit-spec = tie.close (tie.spec cast-crc16-low crc16-low-requires returns)
+crc16-bit-spec = tie.close (tie.spec (search needs) (search needs) returns)

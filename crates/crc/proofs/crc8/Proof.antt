@@ -18,18 +18,6 @@ abbrev μ-loop : tie.MeasureT-loop
 loop-holds : tie.Need-loop-holds Inv-loop μ-loop
 loop-holds c = (omega arith, sym (crc8-bytes _))
 
-cast-crc8-byte : tie.Need-cast-crc8-byte Inv-loop μ-loop
-cast-crc8-byte c = search needs
-
-crc8-byte-requires : tie.Need-crc8-byte-requires Inv-loop μ-loop
-crc8-byte-requires c κs = tt
-
-add-i : tie.Need-add-i Inv-loop μ-loop
-add-i c = omega arith
-
-loop-less : tie.Need-loop-less Inv-loop μ-loop
-loop-less c = omega arith
-
 loop-again : tie.Need-loop-again Inv-loop μ-loop
 loop-again c =
     let turn = c .before .before .loop in
@@ -44,4 +32,4 @@ returns c =
 pub crc8-spec : {M : Type 1} → statement M
 crc8-spec =
     tie.close
-    (tie.spec Inv-loop μ-loop loop-holds cast-crc8-byte crc8-byte-requires add-i loop-less loop-again returns)
+    (tie.spec Inv-loop μ-loop loop-holds (search needs) (search needs) (λ c. omega arith) (λ c. omega arith) loop-again returns)

@@ -1,6 +1,7 @@
 -- `crc::crc8_byte` meets its contract. The loop's invariant: the bits that are left bring the register to where all of the byte's
 -- bring the first (`ByteSoFar`). The measure is the number of bits left. Assumes nothing.
 use Prim.Native.Nat.{_-_}
+use borrow.Author.Needs.{needs}
 use native.Mathlib.Omega.{arith}
 use Rattle.crc.specs.Crc.{mask8}
 use Rattle.crc.specs.Crc.Laws.{ByteSoFar, byte-begins, byte-turns, byte-ends}
@@ -16,15 +17,6 @@ abbrev μ-loop : tie.MeasureT-loop
 loop-holds : tie.Need-loop-holds Inv-loop μ-loop
 loop-holds c = byte-begins _ _ _
 
-crc8-low-requires : tie.Need-crc8-low-requires Inv-loop μ-loop
-crc8-low-requires c κs = tt
-
-add-i : tie.Need-add-i Inv-loop μ-loop
-add-i c = omega arith
-
-loop-less : tie.Need-loop-less Inv-loop μ-loop
-loop-less c = omega arith
-
 loop-again : tie.Need-loop-again Inv-loop μ-loop
 loop-again c =
     let turn = c .before .before .loop in
@@ -38,4 +30,4 @@ returns c =
 pub crc8-byte-spec : {M : Type 1} → statement M
 crc8-byte-spec =
     tie.close
-    (tie.spec Inv-loop μ-loop loop-holds crc8-low-requires add-i loop-less loop-again returns)
+    (tie.spec Inv-loop μ-loop loop-holds (search needs) (λ c. omega arith) (λ c. omega arith) loop-again returns)
