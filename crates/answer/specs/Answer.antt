@@ -2,6 +2,7 @@
 use Prim.Native.Nat.{ℕ}
 use Rattle.answer.specs.declared.Answer.{Answer}
 use Rattle.answer.specs.declared.Answer.the-variants.{Accepted, EventCode, Reading, ImageLength, RomNumber, Configuration, RecordRange, DumpForm, LineCrc, LinePage, Cleared, Counts, Places}
+pub mod Laws
 
 abbrev pub answerNumber : Answer → ℕ
 answerNumber Accepted = 0
