@@ -4,6 +4,7 @@ use mathlib.Core.List.{List, [], _∷_}
 use Prim.Native.Nat.{ℕ, _+_, _/_, _%_}
 use Rattle.answer.specs.declared.Answer.{Answer}
 use Rattle.answer.specs.declared.Answer.the-variants.{Accepted, EventCode, Reading, ImageLength, RomNumber, Configuration, RecordRange, DumpForm, LineCrc, LinePage, Cleared, Counts, Places}
+pub mod Laws
 
 abbrev pub answerNumber : Answer → ℕ
 answerNumber Accepted = 0

@@ -16,12 +16,6 @@ Inv-loop dump line₀ line = (line ≤ 258) × (checkLines dump line (258 - line
 abbrev μ-loop : tie.MeasureT-loop
 μ-loop dump line₀ line = 258 - line
 
-returns : tie.Need-returns Inv-loop μ-loop
-returns c = sym (check-length (c .before .before .args .dump .now) (c .if1 .taken))
-
-loop-holds : tie.Need-loop-holds Inv-loop μ-loop
-loop-holds c = (omega arith, refl)
-
 returns-2 : tie.Need-returns-2 Inv-loop μ-loop
 returns-2 c =
     let dump = c .before .before .before .before .before .before .before .args .dump .now in
@@ -56,5 +50,5 @@ returns-3 c =
 
 pub check-spec : {M : Type 1} → statement M
 check-spec =
-    tie.close (tie.spec Inv-loop μ-loop returns loop-holds (search needs) (search needs) returns-2 (omega arith)
-    (omega arith) loop-again returns-3)
+    tie.close (tie.spec Inv-loop μ-loop (λ c. sym (check-length (c .before .before .args .dump .now) (c .if1 .taken)))
+    (λ c. (omega arith, refl)) (search needs) (search needs) returns-2 (omega arith) (omega arith) loop-again returns-3)

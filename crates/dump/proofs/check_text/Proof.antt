@@ -34,9 +34,6 @@ returns c =
     let a = c .before .before .args in
     sym (check-form (a .text .now) (a .page) (formed-not-long (a .text .now) (c .if1 .taken)))
 
-loop-holds : tie.Need-loop-holds Inv-loop μ-loop
-loop-holds c = (omega arith, refl, refl, refl)
-
 returns-2 : tie.Need-returns-2 Inv-loop μ-loop
 returns-2 c =
     let a = c .before .before .before .before .before .before .before .args in
@@ -83,36 +80,23 @@ tests c =
       c .before .before .crc-in .ensures,
     )
 
-returns-3 : tie.Need-returns-3 Inv-loop μ-loop
-returns-3 c = sym (tests (c .before) ∙ simp (ne-eqb _ _ (c .if2 .taken)))
-
-returns-4 : tie.Need-returns-4 Inv-loop μ-loop
-returns-4 c = sym (tests (c .before .before) ∙ simp (eq-eqb _ _ (c .before .if2 .left), ne-eqb _ _ (c .if3 .taken)))
-
-returns-5 : tie.Need-returns-5 Inv-loop μ-loop
-returns-5 c =
-    let paged = c .before in
-    sym (tests (paged .before .before)
-    ∙ simp (eq-eqb _ _ (paged .before .if2 .left), eq-eqb _ _ (paged .if3 .left), ne-eqb _ _ (c .if4 .taken)))
-
--- the first CRC byte is right too
-second : (c : tie.Else4 Inv-loop μ-loop) → let end = c .before .before .before .before .before .before .before .before in
+-- the form and the page are right, so that the CRC bytes decide
+paged : (c : tie.Else3 Inv-loop μ-loop) → let read = c .before .before in
+    let end = read .before .before .before .before .before in
     let a = end .before .before .before .before .args in
+    let bytes = end .before .loop .bytes in
     checkText (a .text .now) (a .page)
-    ≡ (if not (eqb (getD (end .before .loop .bytes) 35 0) (c .before .before .before .sent-high .result)) then LineCrc else Accepted)
-second c =
-    let paged = c .before in
-    tests (paged .before .before)
-    ∙ simp (eq-eqb _ _ (paged .before .if2 .left), eq-eqb _ _ (paged .if3 .left), eq-eqb _ _ (c .if4 .left))
-
-returns-6 : tie.Need-returns-6 Inv-loop μ-loop
-returns-6 c = sym (second (c .before) ∙ simp (ne-eqb _ _ (c .if5 .taken)))
-
-returns-7 : tie.Need-returns-7 Inv-loop μ-loop
-returns-7 c = sym (second (c .before) ∙ simp (eq-eqb _ _ (c .if5 .left)))
+    ≡ (if not (eqb (getD bytes 34 0) (read .before .sent-low .result) && eqb (getD bytes 35 0) (read .sent-high .result)) then LineCrc
+    else Accepted)
+paged c = tests (c .before .before) ∙ simp (eq-eqb _ _ (c .before .if2 .left), eq-eqb _ _ (c .if3 .left))
 
 pub check-text-spec : {M : Type 1} → statement M
 check-text-spec =
-    tie.close (tie.spec Inv-loop μ-loop returns loop-holds (omega arith) (search needs) (search needs) (search needs)
-    returns-2 (omega arith) (omega arith) (omega arith) loop-again (omega arith) (search needs) (search needs)
-    (search needs) (search needs) (omega arith) (omega arith) returns-3 returns-4 returns-5 returns-6 returns-7)
+    tie.close (tie.spec Inv-loop μ-loop returns (λ c. (omega arith, refl, refl, refl)) (omega arith) (search needs)
+    (search needs) (search needs) returns-2 (omega arith) (omega arith) (omega arith) loop-again (omega arith)
+    (search needs) (search needs) (search needs) (search needs) (omega arith) (omega arith)
+    (λ c. sym (tests (c .before) ∙ simp (ne-eqb _ _ (c .if2 .taken))))
+    (λ c. sym (tests (c .before .before) ∙ simp (eq-eqb _ _ (c .before .if2 .left), ne-eqb _ _ (c .if3 .taken))))
+    (λ c. sym (paged (c .before) ∙ simp (ne-eqb _ _ (c .if4 .taken))))
+    (λ c. sym (paged (c .before .before) ∙ simp (eq-eqb _ _ (c .before .if4 .left), ne-eqb _ _ (c .if5 .taken))))
+    (λ c. sym (paged (c .before .before) ∙ simp (eq-eqb _ _ (c .before .if4 .left), eq-eqb _ _ (c .if5 .left)))))

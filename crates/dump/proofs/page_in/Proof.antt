@@ -20,10 +20,8 @@ add-result c =
     let low : Fits w8 (getD (c .args .t1) 1 0) = search needs in
     omega arith
 
-returns : tie.Need-returns
-unfolding pageIn
-returns c = refl
-
 pub page-in-spec : {M : Type 1} → statement M
+unfolding pageIn
 page-in-spec =
-    tie.close (tie.spec (λ c. search needs) (λ c. search needs) mul-result (λ c. search needs) (λ c. search needs) add-result returns)
+    tie.close (tie.spec (λ c. search needs) (λ c. search needs) mul-result (λ c. search needs) (λ c. search needs)
+    add-result (λ c. refl))

@@ -5,16 +5,9 @@ use borrow.Author.Needs.{needs}
 use Rattle.dump.proofs.page_of.Statement.{statement}
 use Rattle.dump.proofs.page_of.Tie as tie
 
-returns : tie.Need-returns
-returns c = sym (page-register (c .before .args .line) (c .if1 .taken))
-
-returns-2 : tie.Need-returns-2
-returns-2 c = sym (page-log (c .before .before .args .line) (c .before .if1 .left) (c .if2 .taken))
-
-returns-3 : tie.Need-returns-3
-returns-3 c = sym (page-none (c .before .before .args .line) (c .if2 .left))
-
 pub page-of-spec : {M : Type 1} → statement M
 page-of-spec =
-    tie.close (tie.spec (search needs) (search needs) (search needs) (search needs) (search needs) (search needs) returns
-    returns-2 returns-3)
+    tie.close (tie.spec (search needs) (search needs) (search needs) (search needs) (search needs) (search needs)
+    (λ c. sym (page-register (c .before .args .line) (c .if1 .taken)))
+    (λ c. sym (page-log (c .before .before .args .line) (c .before .if1 .left) (c .if2 .taken)))
+    (λ c. sym (page-none (c .before .before .args .line) (c .if2 .left))))

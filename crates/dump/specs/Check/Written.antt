@@ -13,7 +13,7 @@ use Rattle.crc.specs.Crc.{sentLow, sentHigh}
 use Rattle.hex.specs.Hex.{hexText}
 use Rattle.hex.specs.Hex.Text.{length-text, digits-text}
 use Rattle.dump.specs.Lines.{pageOf, lineBytes, lineOf, bytesFrom, dumpText, dataOf, dumpedAt}
-use Rattle.dump.specs.Lines.Laws.{page-register, page-log, dumped-register, dumped-log}
+use Rattle.dump.specs.Lines.Laws.{page-register, page-log, dumped-page}
 use Rattle.dump.specs.Lines.Written.{length-from, from-at, from-small, length-line-bytes, page-in-line, data-in-line, crc-in-line, crc-first, crc-second, line-bytes-small, length-line, bytes-in-line, page-lt, length-dump, line-at}
 use Rattle.dump.specs.Check.{formed, checkText, checkLine, checkLines, checkOf}
 use Rattle.dump.specs.Check.Laws.{formed-whole, crc-both, check-accepted, first-accepted, check-lines}
@@ -82,20 +82,19 @@ module _ (byte : ℕ → ℕ) (small : (a : ℕ) → byte a < 256) where
       )
       (from-at byte page 32 i k)
 
-  -- for an address: what the memory has there
+  -- for an address in the page of a line, and so for any that is dumped: what the memory has there
+  dumped-written : (line i : ℕ) {address : ℕ} → line < 258 → i < 32 → pageOf line + i ≡ address
+      → dumpedAt (dumpText byte) address ≡ byte address
+  dumped-written line i h k there =
+      rw there at (dumped-page (dumpText byte) line i h k ∙ data-written line i h k)
+
   pub dumped-written-register : (address : ℕ) → 0x0200 ≤ address → address < 0x0240
       → dumpedAt (dumpText byte) address ≡ byte address
   dumped-written-register address h k =
       let line = (address - 0x0200) / 32 in
-      let there : 0x0200 + 32 * line + address % 32 ≡ address = omega arith in
-      dumped-register (dumpText byte) address h k
-      ∙ data-written line (address % 32) (omega arith) (omega arith)
-      ∙ rw (page-register line (omega arith), there)
+      dumped-written line (address % 32) (omega arith) (omega arith) (rw (page-register line (omega arith)) (omega arith))
 
   pub dumped-written-log : (address : ℕ) → 0x1000 ≤ address → address < 0x3000 → dumpedAt (dumpText byte) address ≡ byte address
   dumped-written-log address h k =
       let line = 2 + (address - 0x1000) / 32 in
-      let there : 0x1000 + 32 * (line - 2) + address % 32 ≡ address = omega arith in
-      dumped-log (dumpText byte) address h k
-      ∙ data-written line (address % 32) (omega arith) (omega arith)
-      ∙ rw (page-log line (omega arith) (omega arith), there)
+      dumped-written line (address % 32) (omega arith) (omega arith) (rw (page-log line (omega arith) (omega arith)) (omega arith))

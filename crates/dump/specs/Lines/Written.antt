@@ -73,18 +73,14 @@ module _ (high low : ℕ) (bytes : List ℕ) (long : length bytes ≡ 32) where
   pub line-bytes-small : high < 256 → low < 256 → ((i : ℕ) → getD bytes i 0 < 256) → (i : ℕ)
       → getD (lineBytes high low bytes) i 0 < 256
   unfolding lineBytes sentLow sentHigh
-  line-bytes-small high-small low-small small =
-      small-append (high ∷ low ∷ []) (bytes ++ ends) firsts (small-append bytes ends small lasts)
+  line-bytes-small high-small low-small small zero = high-small
+  line-bytes-small high-small low-small small (suc zero) = low-small
+  line-bytes-small high-small low-small small (suc (suc i)) = small-append bytes (sentLow crc ∷ sentHigh crc ∷ []) small lasts i
     where
-      ends : List ℕ
-      ends = sentLow (pageCrc high low bytes) ∷ sentHigh (pageCrc high low bytes) ∷ []
+      crc : ℕ
+      crc = pageCrc high low bytes
 
-      firsts : (i : ℕ) → getD (high ∷ low ∷ []) i 0 < 256
-      firsts zero = high-small
-      firsts (suc zero) = low-small
-      firsts (suc (suc i)) = omega arith
-
-      lasts : (i : ℕ) → getD ends i 0 < 256
+      lasts : (i : ℕ) → getD (sentLow crc ∷ sentHigh crc ∷ []) i 0 < 256
       lasts zero = omega arith
       lasts (suc zero) = omega arith
       lasts (suc (suc i)) = omega arith

@@ -2,10 +2,11 @@
 use mathlib.Core.Path.{_≡_, refl, ap, _∙_}
 use mathlib.Core.List.{List, [], _∷_, _++_}
 use Prim.Native.Nat.{ℕ, zero, suc, _+_, _-_, _/_, _≤_, _<_}
-use native.Mathlib.Nat.{add-zero, add-suc, suc-add}
 use native.Mathlib.Omega.{arith}
 use lib.ListN.{length, take, drop, set}
-use lib.Seq.{sets, sets-eq, set-comm, set-out}
+use lib.Seq.{sets, sets-eq, set-comm}
+use Rattle.bits.specs.Stores.{sets-join}
+pub use Rattle.bits.specs.Stores.{sets-past}
 use Rattle.hex.specs.Hex.{hexDigit, hexOf}
 use Rattle.hex.specs.Hex.Laws.{length-hex}
 
@@ -15,10 +16,6 @@ sets-set l i [] j a h = refl
 sets-set l i (v ∷ vs) j a h =
     sets-set (set l i v) (suc i) vs j a (omega arith)
     ∙ ap (λ (m : List ℕ). sets m (suc i) vs) (set-comm l i j v a (omega arith))
-
-pub sets-append : (l : List ℕ) (i : ℕ) (vs : List ℕ) (a : ℕ) → sets l i (vs ++ (a ∷ [])) ≡ set (sets l i vs) (i + length vs) a
-sets-append l i [] a = rw add-zero
-sets-append l i (v ∷ vs) a = rw (sets-append (set l i v) (suc i) vs a, suc-add, add-suc)
 
 -- the last digit first, then those before it
 pub put-last : (out : List ℕ) (at count n : ℕ) → 0 < count
@@ -30,7 +27,7 @@ put-last out at (suc count) n h =
     let before = hexOf count (n / 16) in
     rw (
       less,
-      sets-append out at before (hexDigit n),
+      sets-join out at before (hexDigit n ∷ []),
       sets-set out at before (at + length before) (hexDigit n) (omega arith),
       length-hex count (n / 16),
     )
@@ -39,11 +36,6 @@ pub put-none : (out : List ℕ) (at count n : ℕ) → count ≤ 0 → sets out 
 unfolding hexOf
 put-none out at zero n h = refl
 put-none out at (suc count) n h = absurd (omega arith)
-
--- nothing is stored past the end
-pub sets-past : (out : List ℕ) (at : ℕ) (vs : List ℕ) → length out ≤ at → sets out at vs ≡ out
-sets-past out at [] h = refl
-sets-past out at (v ∷ vs) h = rw (set-out out at v h) (sets-past out (suc at) vs (omega arith))
 
 -- where there is room, the digits stand in their place and the rest stays
 pub put-fits : (out : List ℕ) (at count n : ℕ) → at + count ≤ length out

@@ -2,11 +2,5 @@
 use Rattle.play.proofs.digit_of.Statement.{statement}
 use Rattle.play.proofs.digit_of.Tie as tie
 
-returns : tie.Need-returns
-returns c = simp (c .if1 .taken)
-
-returns-2 : tie.Need-returns-2
-returns-2 c = simp (c .if1 .left)
-
 pub digit-of-spec : {M : Type 1} → statement M
-digit-of-spec = tie.close (tie.spec returns returns-2)
+digit-of-spec = tie.close (tie.spec (λ c. simp (c .if1 .taken)) (λ c. simp (c .if1 .left)))

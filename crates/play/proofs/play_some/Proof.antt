@@ -6,11 +6,8 @@ use lib.Seq.{length-take-le}
 use Rattle.play.proofs.play_some.Statement.{statement}
 use Rattle.play.proofs.play_some.Tie as tie
 
-slice-aggregate-play-groups : tie.Need-slice-aggregate-play-groups
-slice-aggregate-play-groups c = sym (length-take-le _ _ (omega arith))
-
 pub play-some-spec : {M : Type 1} → statement M
 play-some-spec =
-    tie.close (tie.spec (search needs) (search needs) (search needs) slice-aggregate-play-groups (search needs)
+    tie.close (tie.spec (search needs) (search needs) (search needs) (λ c. sym (length-take-le _ _ (omega arith)))
     (search needs) (search needs) (search needs) (search needs) (search needs) (search needs) (search needs) (search needs)
-    (search needs))
+    (search needs) (search needs))

@@ -3,36 +3,22 @@ use mathlib.Core.Bool.{Bool, true, false}
 use mathlib.Core.List.{List, [], _∷_, _++_}
 use mathlib.Core.Path.{_≡_, refl, _∙_}
 use Prim.Native.Nat.{ℕ, suc, _+_, _*_, _≤_, _<_}
-use native.Mathlib.Nat.{add-zero, add-assoc}
+use native.Mathlib.Nat.{add-assoc}
 use native.Mathlib.Numerals.{add-one}
 use native.Mathlib.Omega.{arith}
 use borrow.Author.Tests.{eqb-true, eq-eqb}
 use lib.Dec.{eqb}
-use lib.ListN.{length, getD, set, drop, length-append}
-use lib.Seq.{sets, drop-cons, set-out}
+use lib.ListN.{length, getD, drop, length-append}
+use lib.Seq.{sets, drop-cons}
 use Rattle.answer.specs.Answer.{answerNumber, refusalText}
 use Rattle.bits.specs.Choose.{if_then_else_, either}
+use Rattle.bits.specs.Stores.{sets-join}
+pub use Rattle.bits.specs.Stores.{sets-past}
 use Rattle.tag.specs.declared.Answered.{Answered}
 use Rattle.tag.specs.declared.Tag.{Tag}
 use Rattle.tag.specs.Tag.{Outcome, step}
 use Rattle.play.specs.declared.Played.{Played}
 use Rattle.play.specs.Play.{Session, sessionOf, answerText, bitText, over, printing}
-
--- ---- a run of stores
-
--- past the end nothing is stored
-pub sets-past : (l : List ℕ) (at : ℕ) (vs : List ℕ) → length l ≤ at → sets l at vs ≡ l
-sets-past l at [] past = refl
-sets-past l at (v ∷ vs) past =
-    let none : set l at v ≡ l = set-out l at v past in
-    rw none (sets-past l (suc at) vs (omega arith))
-
--- two texts, one behind the other
-pub sets-append : (l : List ℕ) (at : ℕ) (a b : List ℕ) → sets l at (a ++ b) ≡ sets (sets l at a) (at + length a) b
-sets-append l at [] b = rw add-zero
-sets-append l at (v ∷ a) b =
-    let up : suc at + length a ≡ at + suc (length a) = omega arith in
-    sets-append (set l at v) (suc at) a b ∙ rw up
 
 -- ---- a block, group by group
 
@@ -94,7 +80,7 @@ putOf out at s =
 pub put-printing : (out : List ℕ) (at : ℕ) (text : List ℕ) (s : Session) →
     putOf out at (printing text s) ≡ putOf (sets out at text) (at + length text) s
 unfolding putOf
-put-printing out at text s = rw (sets-append, length-append, ← add-assoc)
+put-printing out at text s = rw (sets-join, length-append, ← add-assoc)
 
 -- a group's answer is put, and then the rest
 pub put-group : (image : List ℕ) (tag : Tag) (block out : List ℕ) (i at : ℕ) → i + 3 ≤ length block →

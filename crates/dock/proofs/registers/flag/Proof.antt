@@ -3,8 +3,7 @@ use borrow.Author.Needs.{needs}
 use Rattle.dock.proofs.registers.flag.Statement.{statement}
 use Rattle.dock.proofs.registers.flag.Tie as tie
 
-returns : tie.Need-returns
-returns c = rw (c .bit .ensures, c .before .byte-at .ensures)
-
 pub flag-spec : {M : Type 1} → statement M
-flag-spec = tie.close (tie.spec (search needs) (search needs) (search needs) returns)
+flag-spec =
+    tie.close (tie.spec (search needs) (search needs) (search needs)
+    (λ c. rw (c .bit .ensures, c .before .byte-at .ensures)))
