@@ -1,6 +1,7 @@
 -- What Write Scratchpad wrote, Read Scratchpad shows; with a password that may, Copy stores exactly that through the tables and
--- sends 0,1,0,1 on; Read Memory gives it back. With one that may not, Copy stores nothing and the line is the master's. (Document 01,
--- "Memory commands".) A reached tag's scratchpad has 32 bytes (`reached-pad`). Assumes nothing.
+-- sends 0,1,0,1 on; Read Memory gives it back. With one that may not, with another address or E/S than the held ones, and after data
+-- that stops short of the page's end or has a broken byte, Copy stores nothing and the line is the master's. (Document 01, "Memory
+-- commands".) A reached tag's scratchpad has 32 bytes (`reached-pad`). Assumes nothing.
 use mathlib.Core.Path.{_≡_, refl, ap, _∙_}
 use mathlib.Core.Bool.{Bool, true, false, and-false}
 use mathlib.Core.List.{List, [], _∷_, _++_}
@@ -36,7 +37,7 @@ use Rattle.promises.specs.Line.Slots.{numberOf, session, greeting, sessi
 use Rattle.promises.specs.Line.ReadRun.{readHead, readSlots, pageSent, sentWith}
 use Rattle.promises.specs.Line.Reading.{reads-memory}
 use Rattle.promises.specs.Line.Back.{plain-back}
-use Rattle.promises.specs.Line.CopyRun.{copyHead, copyBus, copy-head, copy-field, copy-other, copies-right, status-lt, rest-of-page}
+use Rattle.promises.specs.Line.CopyRun.{copyHead, copyBus, copy-head, copy-field, copy-other, copies-right, Unlike, copies-unlike, status-lt, rest-of-page}
 
 -- ---- Write Scratchpad, Read Scratchpad
 
@@ -112,22 +113,32 @@ copies-page s sound way field n fits low full whole may =
     (slots-quiet done (released (n * 2)) (run-copied (answersOf done) number mark (accepted held) bus n))))
     (refl, refl, refl, refl)
 
--- with a password or an address that may not, nothing is stored, AA stays, and the line is the master's, whatever follows
-pub copies-nothing : (s : State) (sound : Sound s) (way : Way) (address status field : ℕ) (bits : List Bool) → address < 65536 → status < 256 → field < 2 ^ 64 →
-    mayCopy (s .image) field address ≡ false →
-    let slots = slotsOf (copyHead address status) ++ (bitsOf 64 field ++ bits) in
-    let ran = run s (session s way slots) in
-    (ran .line ≡ greeting s way ++ slots) × Kept s (ran .state)
-unfolding answerTo copies
-copies-nothing s sound way address status field bits fits small whole shut =
-    let held = s .tag .exchange .held in
-    let number = numberOf s in
-    let mark = wayMark way in
-    let bus = copyBus address status in
-    let undone : copies held bus (eqb (answersOf s (Question.MayCopy field address)) 1) ≡ false = rw shut (simp and-false) in
-    kept-by s (session-quiet s sound way _
-    (quiet-then (answersOf s) _ (slotsOf (copyHead address status)) _ (copy-head (answersOf s) number mark held address status fits small)
-    (copy-other (answersOf s) number mark held bus field bits whole undone)))
+-- a Copy that is not done: nothing is stored, AA stays, and the line is the master's, whatever follows
+module _ (s : State) (sound : Sound s) (way : Way) (address status field : ℕ) (bits : List Bool) (fits : address < 65536) (small : status < 256) (whole : field < 2 ^ 64) where
+  abbrev pub Undone : Type 0
+  Undone =
+      let slots = slotsOf (copyHead address status) ++ (bitsOf 64 field ++ bits) in
+      let ran = run s (session s way slots) in
+      (ran .line ≡ greeting s way ++ slots) × Kept s (ran .state)
+
+  copies-undone : copies (s .tag .exchange .held) (copyBus address status) (eqb (answersOf s (Question.MayCopy field address)) 1) ≡ false → Undone
+  copies-undone undone =
+      let held = s .tag .exchange .held in
+      let number = numberOf s in
+      let mark = wayMark way in
+      kept-by s (session-quiet s sound way _
+      (quiet-then (answersOf s) _ (slotsOf (copyHead address status)) _ (copy-head (answersOf s) number mark held address status fits small)
+      (copy-other (answersOf s) number mark held (copyBus address status) field bits whole undone)))
+
+  -- with a password or an address that may not
+  pub copies-nothing : mayCopy (s .image) field address ≡ false → Undone
+  unfolding answerTo copies
+  copies-nothing shut = copies-undone (rw shut (simp and-false))
+
+  -- with another address or E/S than the held ones, or data that does not reach the page's end or has a broken byte, whatever the
+  -- password: "Done exactly if"
+  pub copies-unheld : Unlike (s .tag .exchange .held) address status → Undone
+  copies-unheld unlike = copies-undone (copies-unlike unlike _)
 
 -- Write Scratchpad, and after another reset Copy with E/S 1Fh and a password that may: exactly the bytes written are stored
 pub writes-and-copies : (s : State) (sound : Sound s) (way again : Way) (address field n : ℕ) (bytes : List ℕ) → length (s .tag .exchange .held .pad) ≡ 32 →
