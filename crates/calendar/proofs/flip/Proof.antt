@@ -5,13 +5,7 @@ use Rattle.calendar.specs.Calendar.{flipped}
 use Rattle.calendar.proofs.flip.Statement.{statement}
 use Rattle.calendar.proofs.flip.Tie as tie
 
-returns : tie.Need-returns
-unfolding flipped
-returns c = simp (lt-ltb _ _ (c .if1 .taken))
-
-returns-2 : tie.Need-returns-2
-unfolding flipped
-returns-2 c = simp (le-ltb _ _ (c .if1 .left))
-
 pub flip-spec : {M : Type 1} → statement M
-flip-spec = tie.close (tie.spec (search needs) returns returns-2)
+unfolding flipped
+flip-spec =
+    tie.close (tie.spec (search needs) (λ c. simp (lt-ltb _ _ (c .if1 .taken))) (λ c. simp (le-ltb _ _ (c .if1 .left))))

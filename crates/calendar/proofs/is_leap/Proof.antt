@@ -4,13 +4,8 @@ use Rattle.calendar.specs.Calendar.{isLeap, decimal}
 use Rattle.calendar.proofs.is_leap.Statement.{statement}
 use Rattle.calendar.proofs.is_leap.Tie as tie
 
-returns : tie.Need-returns
-unfolding isLeap decimal
-returns c = rw (← c .before .valid .ensures, c .if1 .taken)
-
-returns-2 : tie.Need-returns-2
-unfolding isLeap decimal
-returns-2 c = rw (← c .before .valid .ensures, c .if1 .left)
-
 pub is-leap-spec : {M : Type 1} → statement M
-is-leap-spec = tie.close (tie.spec (search needs) (search needs) (search needs) returns returns-2)
+unfolding isLeap decimal
+is-leap-spec =
+    tie.close (tie.spec (search needs) (search needs) (search needs) (λ c. rw (← c .before .valid .ensures, c .if1 .taken))
+    (λ c. rw (← c .before .valid .ensures, c .if1 .left)))

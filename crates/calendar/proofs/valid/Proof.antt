@@ -15,13 +15,6 @@ digits c = ⊎-elim (λ w. simp (le-leb _ _ (w .0 .taken)) (w .1)) (λ w. simp (
 low : (c : tie.Joined2) → c .if2 .if3 ≡ (leb (c .before .before .args .byte / 16) 9 && leb (c .before .before .args .byte % 16) 9 && leb (c .before .before .args .lowest) (c .before .before .args .byte))
 low c = ⊎-elim (λ w. rw (← digits (c .before), w .0 .taken) (w .1)) (λ w. rw (← digits (c .before), w .0 .left) (w .1 ∙ w .0 .left)) (c .if2 .came)
 
-returns : tie.Need-returns
-unfolding isValid
-returns c = rw (← low (c .before), c .if3 .taken)
-
-returns-2 : tie.Need-returns-2
-unfolding isValid
-returns-2 c = rw (← low (c .before), c .if3 .left)
-
 pub valid-spec : {M : Type 1} → statement M
-valid-spec = tie.close (tie.spec returns returns-2)
+unfolding isValid
+valid-spec = tie.close (tie.spec (λ c. rw (← low (c .before), c .if3 .taken)) (λ c. rw (← low (c .before), c .if3 .left)))
