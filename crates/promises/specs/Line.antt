@@ -2,10 +2,12 @@
 -- reset, a ROM command that chooses the tag (Read ROM, Match, Search or Skip), and a memory command's slots, from any state that no
 -- event refuses (`Sound`; every reached state is one, `reached-sound`).
 -- The statements:
+--   Choosing: Conditional Search is joined with an alarm flag, and passed over without.
 --   Reading: Read ROM reads the number; a page that is read is its line of the dump, and nothing changes.
 --   Storing: Write Scratchpad, Read Scratchpad and Copy with a right password store and give back exactly what was written.
 --   Controlling: Clear, Start, Stop and Forced Conversion are done; with a wrong password nothing is, and the line is the same.
 -- Below them: slots and events (Slots, Pad), and each command as a run of the exchange. Assumes nothing.
+pub mod Choosing
 pub mod Reading
 pub mod Storing
 pub mod Controlling

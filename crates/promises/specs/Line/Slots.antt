@@ -146,7 +146,7 @@ run-slots s (bit ∷ bits) sound =
     ap (λ (r : Ran). record { line = out .answered .line ∷ r .line; state = r .state }) (run-slots (leaves out) bits next)
 
 -- a reset, which gives 0, and the slots after it
-run-reset : (s : State) (bits : List Bool) {line : List Bool} {t : State} → Sound s →
+pub run-reset : (s : State) (bits : List Bool) {line : List Bool} {t : State} → Sound s →
     slots (afterReset s) bits ≡ record { line = line; state = t } →
     run s (Event.reset ∷ map Event.slot bits) ≡ record { line = false ∷ line; state = t }
 unfolding resetTag
