@@ -4,9 +4,16 @@ use Rattle.tag.specs.Tag.{slotted}
 use Rattle.tag.proofs.line.slot.Statement.{statement}
 use Rattle.tag.proofs.line.slot.Tie as tie
 
-pub slot-spec : {M : Type 1} → statement M
+returns : tie.Need-returns
 unfolding slotted
+returns c =
+    let performed = c .before .before .before .perform .ensures in
+    let heard = c .before .before .before .before .before .before in
+    let answered = heard .before .answer-to .ensures in
+    let asked = heard .before .before .before .ask .ensures in
+    (simp (c .accept .ensures, performed .0, heard .slot .ensures, answered, asked), simp (performed .1, heard .slot .ensures, answered, asked))
+
+pub slot-spec : {M : Type 1} → statement M
 slot-spec =
     tie.close
-    (tie.spec (search needs) (search needs) (search needs) (search needs) (search needs) (search needs)
-    (λ c. (simp (c .accept .ensures, c .before .before .before .perform .ensures .0, c .before .before .before .before .before .before .slot .ensures, c .before .before .before .before .before .before .before .answer-to .ensures, c .before .before .before .before .before .before .before .before .before .ask .ensures), simp (c .before .before .before .perform .ensures .1, c .before .before .before .before .before .before .slot .ensures, c .before .before .before .before .before .before .before .answer-to .ensures, c .before .before .before .before .before .before .before .before .before .ask .ensures))))
+    (tie.spec (search needs) (search needs) (search needs) (search needs) (search needs) (search needs) returns)
