@@ -1,2 +1,4 @@
 pub mod Choose
+pub mod Tests
 pub mod Bits
+pub mod Bytes

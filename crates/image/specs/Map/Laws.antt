@@ -101,15 +101,3 @@ index-low a low = at (region-lies a)
     at (in-reserved h k) = omega arith
     at (in-log h k) = omega arith
     at (past-log h) = omega arith
-
--- from 0280h on what lies in the image lies past the low part
-pub index-high : (a : ℕ) → 0x0280 ≤ a → 0x0280 ≤ indexOf (regionAt a)
-index-high a high = at (region-lies a)
-  where
-    at : {r : Region} → Lies a r → 0x0280 ≤ indexOf r
-    at (in-user h) = omega arith
-    at (in-registers h k) = omega arith
-    at (in-calibration h k) = omega arith
-    at (in-reserved h k) = omega arith
-    at (in-log h k) = omega arith
-    at (past-log h) = omega arith

@@ -5,8 +5,9 @@ use Prim.Native.Nat.{ℕ, _+_, _*_, _%_, _<_, _≤_}
 use native.Mathlib.Omega.{arith}
 use borrow.Author.Tests.{lt-ltb, le-leb, eq-eqb, ltb-true, ltb-false, leb-true}
 use lib.Dec.{eqb, ltb}
-use Rattle.bits.specs.Choose.{if_then_else_}
+use Rattle.bits.specs.Choose.{if_then_else_, choice}
 use Rattle.bits.specs.Bits.{shiftIn}
+use Rattle.memory.specs.Memory.Laws.{command-cases}
 use Rattle.memory.specs.declared.Addressed.{Addressed}
 use Rattle.memory.specs.declared.Bus.{Bus}
 use Rattle.memory.specs.declared.Deed.{Deed}
@@ -19,18 +20,13 @@ use Rattle.memory.specs.declared.Sending.{Sending}
 use Rattle.memory.specs.declared.Stage.{Stage}
 use Rattle.memory.specs.Bus.{clearBus, goTo, passing, gathering, adding, freshCrc, addressing, listens}
 use Rattle.memory.specs.Hear.{commandStage, addressHeard, loaded, stored, afterData, underWay, confirmed, heardWhole, heardBit}
-use Rattle.memory.specs.Field.{guarded, afterReading, afterControlling, copies, judged, gatheredBit}
+use Rattle.memory.specs.Field.{afterReading, afterControlling, copies, judged, gatheredBit}
 use Rattle.memory.specs.Send.{afterPad, afterMemory, afterPage, afterCrc, sentWhole, outgoing, sentBit, alternating}
 use Rattle.memory.specs.Memory.{newHeld, stageSlot, onLine, slotOf}
-use Rattle.memory.specs.Memory.Laws.{either}
 use Rattle.memory.specs.Range.{fromOffset, hearingInRange, guardedInRange, crcInRange, sendingInRange, stageInRange, memoryInRange}
 
 and-intro : {a b : Bool} → a ≡ true → b ≡ true → (a && b) ≡ true
 and-intro {a} {b} p q = and-eq-true-iff a b .1 (p, q)
-
-and-right : (a : Bool) {b : Bool} → (a && b) ≡ true → b ≡ true
-and-right true e = e
-and-right false e = cc
 
 -- held registers and a bus state in range, and what a slot leaves
 abbrev Ranged : Held → Bus → Type 0
@@ -72,16 +68,8 @@ next-ranged held place h more =
 -- ---- whole bytes and fields
 
 command-ranged : (held : Held) (bus : Bus) (byte : ℕ) → Entered held bus (commandStage byte)
-unfolding commandStage stageInRange hearingInRange guardedInRange guarded sendingInRange
-command-ranged held bus byte =
-    let P : Stage → Type 0 = Entered held bus in
-    either P (eqb byte 0x0F) refl
-    (either P (eqb byte 0xAA) refl
-    (either P (eqb byte 0x99) refl
-    (either P (eqb byte 0x69) refl
-    (either P (eqb byte 0x96) refl
-    (either P (eqb byte 0xCC) refl
-    (either P (eqb byte 0x33) refl (either P (eqb byte 0x55) refl refl)))))))
+unfolding stageInRange hearingInRange guardedInRange sendingInRange
+command-ranged held bus byte = command-cases (Entered held bus) byte refl refl refl refl (λ control g. g) refl refl
 
 heard-ranged : (h : Hearing) (held : Held) (bus : Bus) (byte : ℕ) → fromOffset held (held .ending) ≡ true → hearingInRange h held ≡ true → After (heardWhole h held bus byte)
 unfolding heardWhole addressHeard stored afterData confirmed fromOffset stageInRange hearingInRange guardedInRange sendingInRange crcInRange
@@ -111,8 +99,8 @@ judged-ranged Guarded.Reading held bus may e = (e, by (ltb (bus .address) 0x3000
     by true false low = refl
     by false may low = refl
 judged-ranged Guarded.Copying held bus may e =
-    either After (copies held bus may) (e, refl) (e, refl)
-judged-ranged (Guarded.Controlling control) held bus may e = (e, either (Entered held bus) may refl refl)
+    choice After (copies held bus may) (e, refl) (e, refl)
+judged-ranged (Guarded.Controlling control) held bus may e = (e, choice (Entered held bus) may refl refl)
 
 -- Read Memory's next byte, and the next page
 memory-ranged : (held : Held) (bus : Bus) → ltb (bus .address) 0x3000 ≡ true → stageInRange (afterMemory bus .stage) held (afterMemory bus) ≡ true
@@ -178,7 +166,7 @@ unfolding heardBit stageInRange
 heard-bit-ranged h held bus bit e given = by (ltb (bus .at) 7) refl
   where
     hearing : hearingInRange h held ≡ true
-    hearing = and-right (ltb (bus .at) 8) (at-stage held bus e given)
+    hearing = and-eq-true-iff (ltb (bus .at) 8) _ .0 (at-stage held bus e given) .1
 
     by :
         (more : Bool) →
@@ -198,7 +186,7 @@ gathered-ranged g held bus bit may e given = by (ltb (bus .at) 63) refl
         ltb (bus .at) 63 ≡ more →
         After (if more then listens held (gathering bus (shiftIn 64 (bus .field) bit) (bus .at + 1)) Deed.Nothing else judged g held bus may)
     by true more =
-        let control = and-right (ltb (bus .at) 64) (at-stage held bus e given) in
+        let control = and-eq-true-iff (ltb (bus .at) 64) _ .0 (at-stage held bus e given) .1 in
         (given .0, on-bus _ _ e (and-intro (lt-ltb (bus .at + 1) 64 (omega (arith, ltb-true (bus .at) 63 more))) control))
     by false more = judged-ranged g held bus may (given .0)
 
@@ -218,7 +206,7 @@ unfolding sentBit stageInRange
 sent-bit-ranged s held bus memory e given = (given .0, by (ltb (bus .at) 7) refl)
   where
     sending : sendingInRange s held bus ≡ true
-    sending = and-right (ltb (bus .at) 8) (at-stage held bus e given)
+    sending = and-eq-true-iff (ltb (bus .at) 8) _ .0 (at-stage held bus e given) .1
 
     by :
         (more : Bool) →
@@ -240,7 +228,7 @@ slot-in-range held bus bit answer h = in-range _ _ (at (bus .stage) refl)
     at (Stage.Hears hearing) e = heard-bit-ranged hearing held bus bit e given
     at (Stage.Gathers g) e = gathered-ranged g held bus bit (eqb answer 1) e given
     at (Stage.Sends s) e = sent-bit-ranged s held bus answer e given
-    at Stage.Copied e = either After (eqb (bus .at) 0) (given .0, on-bus _ _ e refl) (given .0, on-bus _ _ e refl)
+    at Stage.Copied e = choice After (eqb (bus .at) 0) (given .0, on-bus _ _ e refl) (given .0, on-bus _ _ e refl)
 
 -- ---- a new tag, and a reset
 

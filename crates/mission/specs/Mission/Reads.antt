@@ -7,15 +7,16 @@ use Prim.Native.Nat.{ℕ, _+_, _*_, _/_, _%_, _^_, _<_, min}
 use native.Mathlib.Decide.{ℕ-discrete}
 use native.Mathlib.Omega.{arith}
 use borrow.Author.Tests.{eq-eqb, ne-eqb, ltb-true, ltb-false}
-use lib.Dec.{ltb, eqb}
+use lib.Dec.{ltb, eqb, T}
 use lib.ListN.{length, getD, set, length-set}
 use lib.Seq.{getD-set-same, getD-set-other}
-use Rattle.bits.specs.Choose.{if_then_else_}
-use Rattle.image.specs.Fields.{putWord, putFlag}
+use Rattle.bits.specs.Choose.{if_then_else_, choices}
+use Rattle.calendar.specs.declared.Clock.{Clock}
+use Rattle.image.specs.Fields.{putWord, putFlag, flagAt}
 use Rattle.image.specs.Fields.Laws.{word-putWord, word-lt, flag-putFlag}
 use Rattle.image.specs.Keeps.{keeps-putWord, flag-kept}
 use Rattle.image.specs.Registers.{latest, tlfs, thf, tlf, wfta, missionSamples, deviceSamples}
-use Rattle.mission.specs.Clock.{clockOf, stampOf, putClock}
+use Rattle.mission.specs.Clock.{clockOf, stampOf}
 use Rattle.mission.specs.Clock.Laws.{stamp-kept, stamp-putClock}
 use Rattle.mission.specs.Mission.{deviceCounted, resolved, latestStored, alarmsHigh, alarmsLow, alarms, thfSet, tlfSet, places, logged, entryAt, stamped, counted, wftaCleared}
 use Rattle.mission.specs.Mission.Frames.{leaves-logged, leaves-stamped}
@@ -83,39 +84,30 @@ module _ {image : List ℕ} (w : Whole image) where
       go true = omega arith
       go false = omega arith
 
+  -- a flag of 0214h that is put where a test passes
+  raised : (i : ℕ) (t : Bool) → T (ltb i 8) → flagAt (if t then putFlag image 0x0214 i true else image) 0x0214 i ≡ t || flagAt image 0x0214 i
+  raised i true small = flag-putFlag image 0x0214 i true (omega (arith, w .size)) small
+  raised i false small = refl
+
   pub thf-set : (reading : ℕ) → thf (thfSet image reading) ≡ alarmsHigh image reading || thf image
   unfolding thfSet
-  thf-set reading = go (alarmsHigh image reading)
-    where
-      go : (t : Bool) → thf (if t then putFlag image 0x0214 1 true else image) ≡ t || thf image
-      go true = flag-putFlag image 0x0214 1 true (omega (arith, w .size)) tt
-      go false = refl
+  thf-set reading = raised 1 (alarmsHigh image reading) tt
 
   pub tlf-set : (reading : ℕ) → tlf (tlfSet image reading) ≡ alarmsLow image reading || tlf image
   unfolding tlfSet
-  tlf-set reading = go (alarmsLow image reading)
-    where
-      go : (t : Bool) → tlf (if t then putFlag image 0x0214 0 true else image) ≡ t || tlf image
-      go true = flag-putFlag image 0x0214 0 true (omega (arith, w .size)) tt
-      go false = refl
+  tlf-set reading = raised 0 (alarmsLow image reading) tt
 
   pub wfta-cleared : (reading : ℕ) → wfta (wftaCleared image reading) ≡ if alarms image reading then false else wfta image
   unfolding wftaCleared
-  wfta-cleared reading = go (alarms image reading)
-    where
-      go : (t : Bool) → wfta (if t then putFlag image 0x0215 4 false else image) ≡ if t then false else wfta image
-      go true = flag-putFlag image 0x0215 4 false (omega (arith, w .size)) tt
-      go false = refl
+  wfta-cleared reading =
+      choices (λ (i : List ℕ) (b : Bool). wfta i ≡ b) (alarms image reading) (flag-putFlag image 0x0215 4 false (omega (arith, w .size)) tt) refl
 
   -- ---- the stamp
 
   pub stamp-stamped : stampOf (stamped image) ≡ if eqb (missionSamples image) 0 then clockOf image else stampOf image
   unfolding stamped
-  stamp-stamped = go (eqb (missionSamples image) 0)
-    where
-      go : (t : Bool) → stampOf (if t then putClock image 0x0219 (clockOf image) else image) ≡ if t then clockOf image else stampOf image
-      go true = stamp-putClock image (clockOf image) (omega (arith, w .size))
-      go false = refl
+  stamp-stamped =
+      choices (λ (i : List ℕ) (c : Clock). stampOf i ≡ c) (eqb (missionSamples image) 0) (stamp-putClock image (clockOf image) (omega (arith, w .size))) refl
 
   pub stamp-counted : stampOf (counted image) ≡ if eqb (missionSamples image) 0 then clockOf image else stampOf image
   unfolding counted

@@ -6,13 +6,15 @@ use Prim.Native.Nat.{ℕ, _<_}
 use native.Mathlib.Omega.{arith}
 use lib.Dec.{ltb, eqb}
 use lib.ListN.{length, set, length-set}
-use Rattle.bits.specs.Choose.{if_then_else_}
+use Rattle.bits.specs.Bytes.{Bytes, bytes-set}
+use Rattle.bits.specs.Choose.{if_then_else_, choice}
+use Rattle.calendar.specs.Calendar.Named.{Named, named-next}
 use Rattle.calendar.specs.declared.Clock.{Clock}
 use Rattle.image.specs.Fields.{putWord, putFlag}
-use Rattle.image.specs.Fields.Laws.{Bytes, bytes-set, length-putWord, bytes-putWord, length-putFlag, bytes-putFlag}
+use Rattle.image.specs.Fields.Laws.{length-putWord, bytes-putWord, length-putFlag, bytes-putFlag}
 use Rattle.image.specs.Registers.{eosc, tlfs, mip, missionSamples, deviceSamples}
 use Rattle.mission.specs.Clock.{clockOf, putBytes, putClock}
-use Rattle.mission.specs.Clock.Named.{Named, clock-named, named-next}
+use Rattle.mission.specs.Clock.Named.{clock-named}
 use Rattle.mission.specs.Mission.{cleared, mayStart, started, stopped, deviceCounted, latestStored, alarmsHigh, alarmsLow, alarms, thfSet, tlfSet, measured, waiting, nextEntry, logged, stamped, counted, recorded, ended, converted, clocked, delaying, minuteOver, due, missionTicked, ticked, wftaCleared, forced}
 use Rattle.mission.specs.declared.Counters.{Counters}
 
@@ -23,8 +25,7 @@ pub record Whole (image : List ℕ) : Type 0 where
 -- ---- puts
 
 whole-choice : (t : Bool) {a b : List ℕ} → Whole a → Whole b → Whole (if t then a else b)
-whole-choice true p q = p
-whole-choice false p q = q
+whole-choice t p q = choice Whole t p q
 
 pub whole-set : {image : List ℕ} (at b : ℕ) → Whole image → b < 256 → Whole (set image at b)
 whole-set {image} at b w small =
@@ -97,7 +98,7 @@ whole-converted {image} reading w = whole-choice (ended image) w (whole-recorded
 
 pub whole-clocked : {image : List ℕ} → Whole image → Whole (clocked image)
 unfolding clocked
-whole-clocked {image} w = whole-choice (eosc image) (whole-putClock 0x0200 _ w (named-next (clockOf image) (clock-named image))) w
+whole-clocked {image} w = whole-choice (eosc image) (whole-putClock 0x0200 _ w (named-next (clock-named image))) w
 
 pub whole-ticked : {image : List ℕ} (c : Counters) (reading : ℕ) → Whole image → Whole (ticked image c reading)
 unfolding ticked missionTicked

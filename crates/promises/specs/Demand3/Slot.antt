@@ -14,6 +14,7 @@ use Rattle.exchange.specs.Exchange as exchange
 use Rattle.image.specs.Answers.{checked}
 use Rattle.image.specs.Answers.Laws.{control-refused, copy-refused, read-refused}
 use Rattle.image.specs.Registers.{readPassword, fullPassword}
+use Rattle.memory.specs.Phases.Deeds.{control-done}
 use Rattle.memory.specs.declared.Control.{Control}
 use Rattle.memory.specs.declared.Deed.{Deed}
 use Rattle.memory.specs.declared.Guarded.{Guarded}
@@ -24,7 +25,6 @@ use Rattle.memory.specs.declared.Stage.{Stage}
 use Rattle.memory.specs.Field.{fieldQuestion, fieldAsks}
 use Rattle.memory.specs.Memory as memory
 use Rattle.memory.specs.Phases.{letsRead, letsWrite, lets, free}
-use Rattle.memory.specs.Phases.Laws as phases
 use Rattle.memory.specs.Range.{memoryInRange, guardedInRange, hearingInRange, fromOffset, stageInRange}
 use Rattle.memory.specs.Send.{sendAsks}
 use Rattle.mission.specs.declared.Counters.{Counters}
@@ -151,7 +151,7 @@ convert-forces x bit answer range = by (select.isSelected (x .select)) refl
         else exchange.choosing x (select.slotOf (x .select) (x .number) bit (eqb answer 1))) .deed ≡ Deed.Convert →
         Forces x bit
     by true chosen e =
-        let done = phases.control-done (x .held) (x .bus) bit answer Control.Convert e in
+        let done = control-done (x .held) (x .bus) bit answer Control.Convert e in
         record {
           chosen = chosen;
           awaited = done .0;

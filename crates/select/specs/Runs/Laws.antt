@@ -7,12 +7,12 @@ use native.Mathlib.Nat.{div-one, mod-eq-of-lt}
 use native.Mathlib.Omega.{arith}
 use lib.ListN.{length}
 use Rattle.bits.specs.Choose.{if_then_else_}
-use Rattle.bits.specs.Bits.{bitOf, bitsOf, numberOf, shiftIn, shiftAll}
+use Rattle.bits.specs.Bits.{bitOf, bitsOf, numberOf, shiftIn, shiftAll, released}
 use Rattle.bits.specs.Bits.Laws.{length-bits, number-bits, heard-whole, bits-from}
 use Rattle.select.specs.Select.{keeps, clears, resetSelect, romCommand, following, heardBit, slotAt, slotOf}
 use Rattle.select.specs.Select.Laws.{command-more, command-last, following-more, read-more, read-last, heard-right-more, heard-right-last, heard-wrong}
 use Rattle.select.specs.Select.Mark.{known, joins, rom-unknown, rom-joined}
-use Rattle.select.specs.Runs.{Ran, run, released, searchWith, searchAnswers}
+use Rattle.select.specs.Runs.{Ran, run, searchWith, searchAnswers}
 use Rattle.select.specs.declared.Choosing.{Choosing}
 use Rattle.select.specs.declared.Choosing.the-variants.{Silent, Command, Reading, Matching, Giving, Selected}
 use Rattle.select.specs.declared.Select.{Select}
