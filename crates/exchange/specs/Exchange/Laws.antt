@@ -90,7 +90,7 @@ number-kept x bit answer = slot-cases (λ q s. s answer .exchange .number ≡ x 
 join : (x : Exchange) → select.selectInRange (x .select) ≡ true → memoryInRange (x .held) (x .bus) ≡ true → exchangeInRange x ≡ true
 join x p q = simp (p, q)
 
-parts : (x : Exchange) → exchangeInRange x ≡ true → (select.selectInRange (x .select) ≡ true) × (memoryInRange (x .held) (x .bus) ≡ true)
+pub parts : (x : Exchange) → exchangeInRange x ≡ true → (select.selectInRange (x .select) ≡ true) × (memoryInRange (x .held) (x .bus) ≡ true)
 parts x h = and-eq-true-iff (select.selectInRange (x .select)) (memoryInRange (x .held) (x .bus)) .0 h
 
 pub new-in-range : (number : ℕ) → exchangeInRange (newExchange number) ≡ true

@@ -1,13 +1,13 @@
 -- Two images that differ only where a change may touch them stay so: under the same stores, and under ticks with no mission.
 -- So what a Forced Conversion changes stays all that is changed. Assumes nothing.
 use mathlib.Core.Path.{_≡_, _∙_}
-use mathlib.Core.Bool.{Bool, true, false}
+use mathlib.Core.Bool.{true}
 use mathlib.Core.List.{List, [], _∷_}
 use Prim.Native.Nat.{ℕ, suc, _<_}
 use native.Mathlib.Omega.{arith}
 use lib.Dec.{T}
 use lib.ListN.{length}
-use Rattle.bits.specs.Choose.{if_then_else_}
+use Rattle.bits.specs.Choose.{choice, choices}
 use Rattle.calendar.specs.Calendar.{nextSecond}
 use Rattle.calendar.specs.declared.Clock.{Clock}
 use Rattle.image.specs.Fields.Laws.{flag-putFlag}
@@ -16,7 +16,7 @@ use Rattle.image.specs.Leaves.{Flag, touched, widens, Leaves, leaves-then, leav
 use Rattle.image.specs.Registers.{eosc, mip, putLatest, putEosc}
 use Rattle.mission.specs.Clock.{clockOf, putBytes, putClock}
 use Rattle.mission.specs.Clock.Laws.{clock-kept}
-use Rattle.mission.specs.Mission.{clocked, forced, deviceCounted, wftaCleared}
+use Rattle.mission.specs.Mission.{clocked, forced, deviceCounted}
 use Rattle.mission.specs.Mission.Frames.{leaves-clocked, leaves-deviceCounted, leaves-wftaCleared}
 use Rattle.mission.specs.declared.Counters.{Counters}
 
@@ -40,13 +40,9 @@ module _ {runs : List Run} {flags : List Flag} where
   pub clocked-both : {a b : List ℕ} → Leaves runs flags a b → T (free (touched runs flags) 0x0200 6) → eosc b ≡ eosc a
       → Leaves runs flags (clocked a) (clocked b)
   unfolding clocked
-  clocked-both {a} {b} p t e = rw (e, clock-kept (p .keeps) t) (by-test (eosc a))
-    where
-      by-test : (t : Bool)
-          → Leaves runs flags (if t then putClock a 0x0200 (nextSecond (clockOf a)) else a)
-          (if t then putClock b 0x0200 (nextSecond (clockOf a)) else b)
-      by-test true = leaves-putClock-both 0x0200 (nextSecond (clockOf a)) p
-      by-test false = p
+  clocked-both {a} {b} p t e =
+      rw (e, clock-kept (p .keeps) t)
+      (choices (Leaves runs flags) (eosc a) (leaves-putClock-both 0x0200 (nextSecond (clockOf a)) p) p)
 
   -- where the clocks may differ, they may differ after it
   pub clocked-apart : {a b : List ℕ} → Leaves runs flags a b → T (widens runs flags ((0x0200, 6) ∷ []) [])
@@ -61,16 +57,13 @@ eosc-clocked image = leaves-clocked image .bits 0x0212 0 tt tt tt
 
 pub eosc-forced : (image : List ℕ) (c : Counters) → 0x0212 < length image → eosc image ≡ true → eosc (forced image c) ≡ true
 unfolding forced
-eosc-forced image c fits runs = by-test (mip image)
+eosc-forced image c fits runs =
+    choice (λ (i : List ℕ). eosc i ≡ true) (mip image) runs
+    (leaves-wftaCleared (putEosc counted true) (c .reading) .bits 0x0212 0 tt tt tt
+    ∙ flag-putFlag counted 0x0212 0 true (omega (arith, long)) tt)
   where
     counted : List ℕ
     counted = deviceCounted (putLatest image (c .reading))
 
     long : length counted ≡ length image
     long = leaves-deviceCounted (putLatest image (c .reading)) .keeps .lengths ∙ leaves-putWord image 0x020C 2 _ .keeps .lengths
-
-    by-test : (t : Bool) → eosc (if t then image else wftaCleared (putEosc counted true) (c .reading)) ≡ true
-    by-test true = runs
-    by-test false =
-        leaves-wftaCleared (putEosc counted true) (c .reading) .bits 0x0212 0 tt tt tt
-        ∙ flag-putFlag counted 0x0212 0 true (omega (arith, long)) tt

@@ -10,9 +10,9 @@ use borrow.Author.Tests.{eq-eqb, ne-eqb, ltb-true, ltb-false}
 use lib.Dec.{ltb, eqb, T}
 use lib.ListN.{length, getD, set, length-set}
 use lib.Seq.{getD-set-same, getD-set-other}
-use Rattle.bits.specs.Choose.{if_then_else_, choices}
+use Rattle.bits.specs.Choose.{if_then_else_, choices, either}
 use Rattle.calendar.specs.declared.Clock.{Clock}
-use Rattle.image.specs.Fields.{putWord, putFlag, flagAt}
+use Rattle.image.specs.Fields.{putFlag, flagAt}
 use Rattle.image.specs.Fields.Laws.{word-putWord, word-lt, flag-putFlag}
 use Rattle.image.specs.Keeps.{keeps-putWord, flag-kept}
 use Rattle.image.specs.Registers.{latest, tlfs, thf, tlf, wfta, missionSamples, deviceSamples}
@@ -58,14 +58,12 @@ module _ {image : List ℕ} (w : Whole image) where
 
   pub device-counted : deviceSamples (deviceCounted image) ≡ min (deviceSamples image + 1) 0xFFFFFF
   unfolding deviceCounted
-  device-counted = go (ltb (deviceSamples image) 0xFFFFFF) refl
-    where
-      go : (t : Bool) → ltb (deviceSamples image) 0xFFFFFF ≡ t
-          → deviceSamples (if t then putWord image 0x0223 3 (deviceSamples image + 1) else image) ≡ min (deviceSamples image + 1) 0xFFFFFF
-      go true e =
-          let lt = ltb-true (deviceSamples image) 0xFFFFFF e in
-          rw (word-putWord image 0x0223 3 (deviceSamples image + 1) (omega (arith, w .size))) (omega arith)
-      go false e = omega (arith, ltb-false (deviceSamples image) 0xFFFFFF e, word-lt image 0x0223 3 (w .bytes))
+  device-counted =
+      either (λ (i : List ℕ). deviceSamples i ≡ min (deviceSamples image + 1) 0xFFFFFF) (ltb (deviceSamples image) 0xFFFFFF)
+      (λ e.
+      let lt = ltb-true (deviceSamples image) 0xFFFFFF e in
+      rw (word-putWord image 0x0223 3 (deviceSamples image + 1) (omega (arith, w .size))) (omega arith))
+      (λ e. omega (arith, ltb-false (deviceSamples image) 0xFFFFFF e, word-lt image 0x0223 3 (w .bytes)))
 
   pub mission-counted : missionSamples image < 0xFFFFFF → missionSamples (counted image) ≡ missionSamples image + 1
   unfolding counted
@@ -78,11 +76,8 @@ module _ {image : List ℕ} (w : Whole image) where
   pub latest-stored : (reading : ℕ) → latest (latestStored image reading) ≡ resolved image (reading % 2048)
   unfolding latestStored resolved
   latest-stored reading =
-      rw (word-putWord image 0x020C 2 ((if tlfs image then reading else reading / 8 * 8) * 32) (omega (arith, w .size))) (go (tlfs image))
-    where
-      go : (t : Bool) → (if t then reading else reading / 8 * 8) * 32 % 256 ^ 2 / 32 ≡ if t then reading % 2048 else reading % 2048 / 8 * 8
-      go true = omega arith
-      go false = omega arith
+      rw (word-putWord image 0x020C 2 ((if tlfs image then reading else reading / 8 * 8) * 32) (omega (arith, w .size)))
+      (choices (λ (n m : ℕ). n * 32 % 256 ^ 2 / 32 ≡ m) (tlfs image) (omega arith) (omega arith))
 
   -- a flag of 0214h that is put where a test passes
   raised : (i : ℕ) (t : Bool) → T (ltb i 8) → flagAt (if t then putFlag image 0x0214 i true else image) 0x0214 i ≡ t || flagAt image 0x0214 i

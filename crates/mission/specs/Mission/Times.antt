@@ -2,7 +2,7 @@
 -- every period" (document 01, "A mission"). Delay register and counters say after each tick which number it had.
 -- Assumes nothing.
 use mathlib.Core.Path.{_≡_, refl, sym, ap, _∙_}
-use mathlib.Core.Bool.{Bool, true, not, _&&_}
+use mathlib.Core.Bool.{Bool, true, not, _&&_, Bool·not-not, and-true}
 use mathlib.Core.List.{List}
 use mathlib.Core.Logic.{dite}
 use Prim.Native.Nat.{ℕ, suc, _+_, _-_, _*_, _/_, _%_, _≤_, _<_}
@@ -176,25 +176,23 @@ module _ {d p t : ℕ} {image : List ℕ} {c : Counters} (o : OnTime d p t image
   period-positive : 0 < p
   period-positive = rw (← (o .every)) (period-pos image (o .rated))
 
-  delaying-time : delaying image ≡ ltb t (60 * d)
-  unfolding delaying
-  delaying-time =
-      rw (o .running, o .left)
+  -- the delay is over exactly when its minutes are
+  delay-over : eqb (delay image) 0 ≡ not (ltb t (60 * d))
+  delay-over =
+      rw (o .left)
       (dite (decLt t (60 * d)) (λ lt. rw (lt-ltb t (60 * d) lt, ne-eqb (d - t / 60) 0 (omega arith)))
       (λ ge.
       let past : 60 * d ≤ t = omega arith in
       let none : d - t / 60 ≡ 0 = omega arith in
       rw (le-ltb t (60 * d) past, none)))
 
+  delaying-time : delaying image ≡ ltb t (60 * d)
+  unfolding delaying
+  delaying-time = rw (o .running, delay-over) (Bool·not-not (ltb t (60 * d)))
+
   converting-time : converting image ≡ not (ltb t (60 * d))
   unfolding converting
-  converting-time =
-      rw (o .running, o .left, ne-eqb (rate image) 0 (o .rated))
-      (dite (decLt t (60 * d)) (λ lt. rw (lt-ltb t (60 * d) lt, ne-eqb (d - t / 60) 0 (omega arith)))
-      (λ ge.
-      let past : 60 * d ≤ t = omega arith in
-      let none : d - t / 60 ≡ 0 = omega arith in
-      rw (le-ltb t (60 * d) past, none)))
+  converting-time = rw (o .running, delay-over, ne-eqb (rate image) 0 (o .rated), and-true)
 
   -- tick t + 1 is a conversion time by its number alone
   pub due-time : due image c ≡ isTime d p (suc t)

@@ -1,10 +1,9 @@
 -- The settings of a mission, in the image that Start leaves. Assumes nothing.
 use mathlib.Core.Path.{_≡_, refl}
-use mathlib.Core.Bool.{Bool, true, false}
 use mathlib.Core.List.{List}
-use Prim.Native.Nat.{ℕ, _+_, _*_, _/_, _%_, _≤_, _<_}
+use Prim.Native.Nat.{ℕ, _+_, _%_, _≤_, _<_}
 use native.Mathlib.Omega.{arith}
-use Rattle.bits.specs.Choose.{if_then_else_, either}
+use Rattle.bits.specs.Choose.{choice, choices}
 use Rattle.image.specs.Registers
 use Rattle.mission.specs.Clock.{clockOf}
 use Rattle.mission.specs.Mission
@@ -46,19 +45,15 @@ module _ (image : List ℕ) where
 
   pub kept-of : (reading : ℕ) → History.kept (settingsOf image) reading ≡ Mission.resolved image reading
   unfolding settingsOf History.kept Mission.resolved
-  kept-of reading = by-format (Registers.tlfs image)
-    where
-      by-format : (t : Bool) → (if t then reading else 8 * (reading / 8)) ≡ if t then reading else reading / 8 * 8
-      by-format true = refl
-      by-format false = omega arith
+  kept-of reading = choices (λ (n m : ℕ). n ≡ m) (Registers.tlfs image) refl (omega arith)
 
   pub places-pos : 0 < Mission.places image
   unfolding Mission.places
-  places-pos = either (λ (n : ℕ). 0 < n) (Registers.tlfs image) (λ e. omega arith) (λ e. omega arith)
+  places-pos = choice (λ (n : ℕ). 0 < n) (Registers.tlfs image) (omega arith) (omega arith)
 
   pub places-le : Mission.places image ≤ 8192
   unfolding Mission.places
-  places-le = either (λ (n : ℕ). n ≤ 8192) (Registers.tlfs image) (λ e. omega arith) (λ e. omega arith)
+  places-le = choice (λ (n : ℕ). n ≤ 8192) (Registers.tlfs image) (omega arith) (omega arith)
 
   -- two entries that are less than the log apart lie at different places
   pub place-apart : (k n : ℕ) → k < n → n < k + Mission.places image → k % Mission.places image ≡ n % Mission.places image → ⊥

@@ -15,7 +15,7 @@ use Rattle.answer.specs.declared.Answer.{Answer}
 use Rattle.bits.specs.Bits.{digit}
 use Rattle.bits.specs.Bits.Laws.{bit-past}
 use Rattle.bits.specs.Bytes.{bytes-set, byte-blank, bytes-blank}
-use Rattle.bits.specs.Choose.{if_then_else_}
+use Rattle.bits.specs.Choose.{if_then_else_, choice}
 use Rattle.calendar.specs.Calendar.{clockAfter}
 use Rattle.exchange.specs.Exchange as exchange
 use Rattle.exchange.specs.Exchange.Pad.{PaddedIn, exchange-padded, reset-padded, new-padded}
@@ -131,11 +131,8 @@ solid-after {s} solid (Event.tick reading) valid =
 
 nothing-yet : (s : Settings) → History.history s [] ≡ []
 unfolding History.history History.toLog History.conversionsFrom History.fromAlarm
-nothing-yet s = by-suta (s .suta)
-  where
-    by-suta : (b : Bool) → take (History.most s) (if_then_else_ {A = List Conversion} b [] []) ≡ []
-    by-suta true = take-nil (History.most s)
-    by-suta false = take-nil (History.most s)
+nothing-yet s =
+    choice (λ (l : List Conversion). take (History.most s) l ≡ []) (s .suta) (take-nil (History.most s)) (take-nil (History.most s))
 
 no-stamp : (s : Settings) → History.stamp s [] ≡ History.zeros
 unfolding History.stamp History.clockAt

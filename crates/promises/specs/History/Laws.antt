@@ -10,7 +10,7 @@ use lib.Dec.{eqb, leb}
 use lib.ListN.{length, take, drop, length-append, length-take}
 use lib.Seq.{take-all, take-append-le, length-take-le}
 use Rattle.bits.specs.Bits.{digit}
-use Rattle.bits.specs.Choose.{if_then_else_}
+use Rattle.bits.specs.Choose.{if_then_else_, choice}
 use Rattle.calendar.specs.Calendar.{clockAfter}
 use Rattle.promises.specs.History.{Settings, Conversion, places, isTime, alarms, conversionsFrom, fromAlarm, toLog, most, history, clockAt, stamp}
 
@@ -96,12 +96,9 @@ none-taken (suc m) (c ∷ cs) h = refl
 
 pub most-pos : (s : Settings) → 0 < most s
 unfolding most places
-most-pos s = by-tests (s .ro) (s .tlfs)
-  where
-    by-tests : (r f : Bool) → 0 < (if r then 0xFFFFFF + digit (s .suta) else min (if f then 4096 else 8192) (0xFFFFFF + digit (s .suta)))
-    by-tests true f = omega arith
-    by-tests false true = omega arith
-    by-tests false false = omega arith
+most-pos s =
+    let countable = 0xFFFFFF + digit (s .suta) in
+    choice (λ (n : ℕ). 0 < n) (s .ro) (omega arith) (choice (λ (n : ℕ). 0 < min n countable) (s .tlfs) (omega arith) (omega arith))
 
 logs-taken : (s : Settings) (log : List Conversion) (reading : ℕ) → logs s (take (most s) log) reading ≡ logs s log reading
 unfolding logs
