@@ -1,8 +1,9 @@
 -- "Bytes travel low bit first" (document 01, "Choosing a tag on the line"). Assumes nothing.
 use mathlib.Core.Bool.{Bool, true, false}
-use mathlib.Core.List.{List, [], _∷_}
+use mathlib.Core.List.{List, [], _∷_, flatMap}
 use Prim.Native.Nat.{ℕ, zero, suc, _+_, _-_, _*_, _/_, _%_, _^_}
 use lib.Dec.{eqb}
+use lib.ListN.{replicate}
 pub mod Laws
 
 -- the number of a bit
@@ -18,6 +19,13 @@ bitOf n i = eqb (n / 2 ^ i % 2) 1
 unfoldable pub bitsOf : ℕ → ℕ → List Bool
 bitsOf zero n = []
 bitsOf (suc w) n = bitOf n 0 ∷ bitsOf w (n / 2)
+
+-- the slots of these bytes, and n slots with the line released
+abbrev pub slotsOf : List ℕ → List Bool
+slotsOf bytes = flatMap (bitsOf 8) bytes
+
+abbrev pub released : ℕ → List Bool
+released n = replicate n true
 
 -- the number that these bits are, low bit first
 unfoldable pub numberOf : List Bool → ℕ

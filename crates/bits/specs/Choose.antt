@@ -1,4 +1,4 @@
--- A choice between two values, written as a reader says it, and its law. Assumes nothing.
+-- A choice between two values, written as a reader says it, and its laws. Assumes nothing.
 use mathlib.Core.Bool.{Bool, true, false}
 use mathlib.Core.Path.{_≡_, refl}
 
@@ -12,3 +12,12 @@ pub either : {A : Type 0} (P : A → Type 0) (test : Bool) {a b : A} → (test �
     P (if test then a else b)
 either P true p q = p refl
 either P false p q = q refl
+
+-- what holds of both in any case holds of the choice, and of two choices by one test
+pub choice : {A : Type 0} (P : A → Type 0) (test : Bool) {a b : A} → P a → P b → P (if test then a else b)
+choice P test p q = either P test (λ e. p) (λ e. q)
+
+pub choices : {A B : Type 0} (P : A → B → Type 0) (test : Bool) {a b : A} {c d : B} → P a c → P b d →
+    P (if test then a else b) (if test then c else d)
+choices P true p q = p
+choices P false p q = q

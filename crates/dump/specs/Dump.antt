@@ -5,7 +5,7 @@ use mathlib.Core.List.{List}
 use Prim.Native.Nat.{ℕ, _+_, _≤_, _<_}
 use lib.ListN.{length}
 use Rattle.answer.specs.declared.Answer.the-variants.{Accepted}
-use Rattle.image.specs.Fields.Laws.{Bytes}
+use Rattle.bits.specs.Bytes.{Bytes}
 use Rattle.image.specs.Sent.{sentAt}
 use Rattle.image.specs.Sent.Laws.{sent-lt}
 use Rattle.dump.specs.Lines.{pageOf, lineOf, bytesFrom, dumpText, lineAt, dataOf, dumpedAt}

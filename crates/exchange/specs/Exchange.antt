@@ -17,6 +17,7 @@ use Rattle.select.specs.Select as select
 use Rattle.exchange.specs.declared.Exchange.{Exchange}
 use Rattle.exchange.specs.declared.Slotted.{Slotted}
 pub mod Laws
+pub mod Pad
 
 -- "A new tag .. has .. everything else clear, and waits for a reset"
 abbrev pub newExchange : ℕ → Exchange

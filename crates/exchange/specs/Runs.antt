@@ -2,7 +2,7 @@
 use mathlib.Core.Bool.{Bool, true, false}
 use mathlib.Core.List.{List, [], _∷_, _++_, map}
 use Prim.Native.Nat.{ℕ}
-use Rattle.bits.specs.Bits.{bitsOf}
+use Rattle.bits.specs.Bits.{bitsOf, released}
 use Rattle.memory.specs.declared.Bus.{Bus}
 use Rattle.memory.specs.declared.Deed.{Deed}
 use Rattle.memory.specs.declared.Hearing.{Hearing}
@@ -12,7 +12,7 @@ use Rattle.memory.specs.declared.Stage.{Stage}
 use Rattle.memory.specs.Bus.{clearBus}
 use Rattle.select.specs.declared.Choosing.the-variants.{Selected}
 use Rattle.select.specs.Select.{keeps}
-use Rattle.select.specs.Runs.{released, searchWith, searchAnswers}
+use Rattle.select.specs.Runs.{searchWith, searchAnswers}
 use Rattle.exchange.specs.declared.Exchange.{Exchange}
 use Rattle.exchange.specs.Exchange.{asks, slotOf}
 pub mod Laws

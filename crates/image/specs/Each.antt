@@ -1,7 +1,7 @@
 -- A test that is computed at every number below a bound, and what it shows of each: how a table's rule is proved once for
 -- the whole table. Assumes nothing.
-use mathlib.Core.Path.{_≡_, refl, subst, sym}
-use mathlib.Core.Bool.{Bool, true, false, _&&_, Bool·beq}
+use mathlib.Core.Path.{subst, sym}
+use mathlib.Core.Bool.{Bool, true, _&&_}
 use mathlib.Core.Logic.{⊎-elim}
 use Prim.Native.Nat.{ℕ, zero, suc, _<_}
 use native.Mathlib.Nat.{eq-or-lt-of-le, le-of-suc-le-suc, not-suc-le-zero}
@@ -26,10 +26,3 @@ each-at (suc n) f t k h =
 
 pub eachPair-at : (n : ℕ) (f : ℕ → ℕ → Bool) → T (eachPair n f) → (i j : ℕ) → i < n → j < n → T (f i j)
 eachPair-at n f t i j hi hj = each-at n (f i) (each-at n (λ k. each n (f k)) t i hi) j hj
-
--- two Bools that the test finds equal
-pub beq-eq : (a b : Bool) → T (Bool·beq a b) → a ≡ b
-beq-eq true true t = refl
-beq-eq true false t = absurd t
-beq-eq false true t = absurd t
-beq-eq false false t = refl

@@ -4,14 +4,14 @@ use mathlib.Core.Path.{_≡_, refl, _∙_}
 use mathlib.Core.Bool.{Bool, true, false, _&&_, _||_}
 use mathlib.Core.List.{List, [], _∷_}
 use mathlib.Core.Logic.{⊎-elim}
-use Prim.Native.Nat.{ℕ, _+_, _≤_}
+use Prim.Native.Nat.{ℕ, _+_, _≤_, _<_}
 use native.Mathlib.Omega.{arith}
 use lib.Dec.{T, leb, leb→le}
 use lib.Ieee.Fits.{and-l, and-r, and-i}
 use lib.ListN.{length, getD, set, length-set}
-use Rattle.bits.specs.Choose.{if_then_else_}
+use Rattle.bits.specs.Tests.{or-cases}
 use Rattle.image.specs.Fields.{wordAt, putWord, flagAt, putFlag, apart}
-use Rattle.image.specs.Fields.Laws.{either, apart-sym, apart-part, byte-set-other, word-same}
+use Rattle.image.specs.Fields.Laws.{apart-sym, apart-part, byte-set-other, word-same}
 use Rattle.image.specs.Fields.Laws.{length-putWord, byte-putWord-other, length-putFlag, byte-putFlag-other}
 
 -- a place and a count of bytes
@@ -42,7 +42,7 @@ pub record Keeps (runs : List Run) (before after : List ℕ) : Type 0 where
   pub lengths : length after ≡ length before
   pub bytes : (k : ℕ) → T (free runs k 1) → getD after k 0 ≡ getD before k 0
 
--- nothing done keeps all; one change after another keeps what both keep; and so does a choice between two
+-- nothing done keeps all, and one change after another keeps what both keep
 module _ {runs : List Run} where
   pub keeps-same : {image : List ℕ} → Keeps runs image image
   keeps-same = record { lengths = refl; bytes = λ k t. refl }
@@ -50,16 +50,12 @@ module _ {runs : List Run} where
   pub keeps-then : {a b c : List ℕ} → Keeps runs a b → Keeps runs b c → Keeps runs a c
   keeps-then p q = record { lengths = q .lengths ∙ p .lengths; bytes = λ k t. q .bytes k t ∙ p .bytes k t }
 
-  pub keeps-choice : (t : Bool) {a b c : List ℕ} → Keeps runs a b → Keeps runs a c → Keeps runs a (if t then b else c)
-  keeps-choice true p q = p
-  keeps-choice false p q = q
-
 -- what no run of a list touches, none touches that the list covers
-free-covered : (ss : List Run) (r : Run) (k : ℕ) → T (covers ss r) → T (free ss k 1) → T (apart (r .0) (r .1) k 1)
+pub free-covered : (ss : List Run) (r : Run) (k : ℕ) → T (covers ss r) → T (free ss k 1) → T (apart (r .0) (r .1) k 1)
 free-covered [] r k c f = absurd c
 free-covered (s ∷ ss) r k c f =
     ⊎-elim here (λ d. free-covered ss r k d (and-r (apart (s .0) (s .1) k 1) (free ss k 1) f))
-    (either (inside s r) (covers ss r) c)
+    (or-cases (inside s r) (covers ss r) c)
   where
     here : T (inside s r) → T (apart (r .0) (r .1) k 1)
     here i =
@@ -68,6 +64,12 @@ free-covered (s ∷ ss) r k c f =
         (leb→le _ _ (and-l (leb (s .0) (r .0)) (leb (r .0 + r .1) (s .0 + s .1)) i))
         (leb→le _ _ (and-r (leb (s .0) (r .0)) (leb (r .0 + r .1) (s .0 + s .1)) i))
         (apart-sym (s .0) (s .1) k 1 (and-l (apart (s .0) (s .1) k 1) (free ss k 1) f)))
+
+pub free-all : (ss rs : List Run) (k : ℕ) → T (coversAll ss rs) → T (free ss k 1) → T (free rs k 1)
+free-all ss [] k t f = tt
+free-all ss (r ∷ rs) k t f =
+    and-i (apart (r .0) (r .1) k 1) (free rs k 1) (free-covered ss r k (and-l (covers ss r) (coversAll ss rs) t) f)
+    (free-all ss rs k (and-r (covers ss r) (coversAll ss rs) t) f)
 
 -- what is free of the runs is so in each part
 pub free-part : (runs : List Run) (at n k j : ℕ) → at ≤ k → k + j ≤ at + n → T (free runs at n) → T (free runs k j)
@@ -79,20 +81,18 @@ free-part (r ∷ rs) at n k j lo hi t =
 
 -- more runs may be named than a change touches
 pub keeps-wider : (ss rs : List Run) {a b : List ℕ} → T (coversAll ss rs) → Keeps rs a b → Keeps ss a b
-keeps-wider ss rs t p = record { lengths = p .lengths; bytes = λ k f. p .bytes k (every rs t k f) }
-  where
-    every : (rs : List Run) → T (coversAll ss rs) → (k : ℕ) → T (free ss k 1) → T (free rs k 1)
-    every [] t k f = tt
-    every (r ∷ rs) t k f =
-        and-i (apart (r .0) (r .1) k 1) (free rs k 1)
-        (free-covered ss r k (and-l (covers ss r) (coversAll ss rs) t) f)
-        (every rs (and-r (covers ss r) (coversAll ss rs) t) k f)
+keeps-wider ss rs t p = record { lengths = p .lengths; bytes = λ k f. p .bytes k (free-all ss rs k t f) }
 
 -- ---- what the puts keep
 
-pub keeps-set : (image : List ℕ) (at b : ℕ) → Keeps ((at, 1) ∷ []) image (set image at b)
-keeps-set image at b =
-    record { lengths = length-set image at b; bytes = λ k t. byte-set-other image at b k (and-l (apart at 1 k 1) true t) }
+-- a store within a run
+pub keeps-within : (image : List ℕ) (at n k b : ℕ) → at ≤ k → k < at + n → Keeps ((at, n) ∷ []) image (set image k b)
+keeps-within image at n k b lo hi =
+    record {
+      lengths = length-set image k b;
+      bytes = λ j t. byte-set-other image k b j
+          (apart-sym j 1 k 1 (apart-part j 1 at n k 1 lo (omega arith) (apart-sym at n j 1 (and-l (apart at n j 1) true t))));
+    }
 
 pub keeps-putWord : (image : List ℕ) (at n v : ℕ) → Keeps ((at, n) ∷ []) image (putWord image at n v)
 keeps-putWord image at n v =

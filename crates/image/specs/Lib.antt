@@ -6,4 +6,5 @@ pub mod Fields
 pub mod Registers
 pub mod Answers
 pub mod Keeps
+pub mod Leaves
 pub mod Each

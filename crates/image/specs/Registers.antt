@@ -5,7 +5,6 @@ use mathlib.Core.List.{List}
 use Prim.Native.Nat.{ℕ, _*_, _/_, _%_, _^_}
 use lib.ListN.{getD}
 use Rattle.image.specs.Fields.{wordAt, putWord, flagAt, putFlag}
-pub mod Laws
 
 -- ---- what the tag reads
 

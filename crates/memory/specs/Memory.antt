@@ -14,6 +14,7 @@ use Rattle.memory.specs.Hear.{heardBit}
 use Rattle.memory.specs.Field.{gatheredBit, fieldAsks}
 use Rattle.memory.specs.Send.{sentBit, alternating, sendAsks}
 pub mod Laws
+pub mod Pad
 
 -- a new tag's scratchpad, TA and E/S are 0
 abbrev pub newHeld : Held

@@ -17,6 +17,7 @@ use Rattle.memory.specs.declared.Stage.{Stage}
 use Rattle.memory.specs.Hear.{deedOf}
 use Rattle.memory.specs.Field.{guarded, copies}
 pub mod Laws
+pub mod Deeds
 
 -- ---- the stages that a password leads to
 

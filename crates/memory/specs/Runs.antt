@@ -1,9 +1,7 @@
 -- Runs of slots of a memory command: what the line carries, what is asked of the image and what is to be done to it. Assumes nothing.
-use mathlib.Core.Bool.{Bool, true}
-use mathlib.Core.List.{List, [], _∷_, _++_, map, flatMap}
+use mathlib.Core.Bool.{Bool}
+use mathlib.Core.List.{List, [], _∷_, _++_, map}
 use Prim.Native.Nat.{ℕ}
-use lib.ListN.{replicate}
-use Rattle.bits.specs.Bits.{bitsOf}
 use Rattle.memory.specs.declared.Bus.{Bus}
 use Rattle.memory.specs.declared.Deed.{Deed}
 use Rattle.memory.specs.declared.Held.{Held}
@@ -33,13 +31,6 @@ run image held bus (bit ∷ bits) =
       asked = asks bus bit ∷ rest .asked;
       deeds = moved .deed ∷ rest .deeds;
     }
-
--- the slots of these bytes, low bit first, and n slots with the line released
-abbrev pub slotsOf : List ℕ → List Bool
-slotsOf bytes = flatMap (bitsOf 8) bytes
-
-abbrev pub released : ℕ → List Bool
-released n = replicate n true
 
 -- one run and then another
 abbrev pub follows : Ran → Ran → Ran

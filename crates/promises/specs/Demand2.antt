@@ -26,13 +26,10 @@ use Rattle.promises.specs.History
 use Rattle.promises.specs.History.{Settings, Conversion}
 use Rattle.promises.specs.History.Laws.{history-le}
 use Rattle.promises.specs.Runs.{State, Event, after, run, Reached, Always}
-pub mod Wait
 pub mod AtStart
 pub mod Counts
 pub mod Holds
 pub mod Ticks
-pub mod Pad
-pub mod Blank
 pub mod Events
 pub mod Deeds
 pub mod Course
@@ -101,6 +98,6 @@ demand2 {s} e events lent reached starts always =
     lists (listed-run {readings = []} events (began .solid) (began .holds) always) (run start events .state .tag .code)
     (history-le (settingsOf (start .image)) (missionTicks start events))
     (ranges-of (run start events .state .tag) (sound .ranges) .code)
-    (began .holds .running .rated)
+    (began .holds .running .time .rated)
     (began .etl)
     lent

@@ -9,12 +9,12 @@ use Rattle.bits.specs.Bits.{shiftIn}
 use Rattle.exchange.specs.declared.Exchange.{Exchange}
 use Rattle.image.specs.Answers.{alarmed}
 use Rattle.image.specs.Keeps.{Run}
+use Rattle.image.specs.Leaves.{Flag, Leaves}
 use Rattle.image.specs.Registers.{mip, eosc, passwordControl, readPassword, fullPassword}
 use Rattle.memory.specs.declared.Control.{Control}
 use Rattle.memory.specs.declared.Guarded.{Guarded}
 use Rattle.memory.specs.declared.Hearing.{Hearing}
 use Rattle.memory.specs.declared.Stage.{Stage}
-use Rattle.mission.specs.Leaves.{Flag, Leaves}
 use Rattle.select.specs.Select.{isSelected, asksAlarm}
 use Rattle.promises.specs.Runs.{State, Event, after, run, ticksOf, Reached, Always, Together, OnSlots}
 pub mod Slot

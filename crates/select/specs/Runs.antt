@@ -2,7 +2,6 @@
 use mathlib.Core.Bool.{Bool, true, not, _&&_}
 use mathlib.Core.List.{List, [], _∷_, flatMap}
 use Prim.Native.Nat.{ℕ}
-use lib.ListN.{replicate}
 use Rattle.select.specs.Select.{slotOf, isSelected}
 use Rattle.select.specs.declared.Select.{Select}
 pub mod Laws
@@ -26,10 +25,6 @@ unfoldable pub stillChoosing : Select → ℕ → Bool → List Bool → Bool
 stillChoosing select number alarm [] = true
 stillChoosing select number alarm (bit ∷ bits) =
     not (isSelected select) && stillChoosing (slotOf select number bit alarm .select) number alarm bits
-
--- n slots with the line released
-abbrev pub released : ℕ → List Bool
-released n = replicate n true
 
 -- a Search pass with these choices: per bit two slots released, then the choice
 abbrev pub searchWith : List Bool → List Bool

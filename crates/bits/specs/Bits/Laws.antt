@@ -1,15 +1,15 @@
 -- What bits taken low first add up to, once for every width. Assumes nothing.
 use mathlib.Core.Path.{_≡_, refl, sym, ap, _∙_}
-use mathlib.Core.Bool.{false}
-use mathlib.Core.List.{_∷_, _++_}
+use mathlib.Core.Bool.{false, Bool, true}
+use mathlib.Core.List.{_∷_, _++_, List, [], flatMap, append-assoc}
 use Prim.Native.Nat.{ℕ, zero, suc, _+_, _-_, _*_, _/_, _%_, _^_, _≤_, _<_}
 use native.Mathlib.Nat.{pow-succ', div-one, div-div-eq-div-mul, mul-comm, mod-one, mod-eq-of-lt, div-eq-of-lt, add-mul-div-right, mul-assoc, add-suc, suc-add, add-zero, zero-add, le-of-suc-le-suc, not-suc-le-zero, lt-of-lt-of-le, zero-mul, mul-one, add-mul, mul-left-comm, add-assoc}
 use native.Mathlib.Omega.{arith}
 use native.Mathlib.Numerals.{add-one}
 use lib.Dec.{eqb}
-use lib.ListN.{length, getD}
+use lib.ListN.{length, getD, replicate-append-replicate}
 use lib.Pow.{pow-pos, pow-mono, pow-add, mod-pow-add, field, mod-mod-pow}
-use Rattle.bits.specs.Bits.{digit, bitOf, bitsOf, numberOf, shiftIn, shiftAll}
+use Rattle.bits.specs.Bits.{digit, bitOf, bitsOf, numberOf, shiftIn, shiftAll, slotsOf, released}
 
 -- bit i + 1 of a number is bit i of its half
 pub bit-suc : (n i : ℕ) → bitOf n (suc i) ≡ bitOf (n / 2) i
@@ -32,6 +32,18 @@ digit-bit n = rw (div-one n) (cases (n % 2) (omega arith))
     cases zero h = refl
     cases (suc zero) h = refl
     cases (suc (suc r)) h = absurd (not-suc-le-zero (le-of-suc-le-suc (le-of-suc-le-suc h)))
+
+-- a bit's number is at most 1, is 1 exactly if the bit is, and tells which bit it is
+pub digit-le : (b : Bool) → digit b ≤ 1
+digit-le true = omega arith
+digit-le false = omega arith
+
+pub digit-one : (b : Bool) → eqb (digit b) 1 ≡ b
+digit-one true = refl
+digit-one false = refl
+
+pub digit-same : (a b : Bool) → digit a ≡ digit b → a ≡ b
+digit-same a b e = sym (digit-one a) ∙ ap (λ (n : ℕ). eqb n 1) e ∙ digit-one b
 
 -- the low w + 1 bits: the lowest, and w bits of the half
 mod-pow-suc : (n w : ℕ) → n % 2 ^ suc w ≡ n % 2 + 2 * (n / 2 % 2 ^ w)
@@ -78,6 +90,19 @@ bits-mod (suc a) n =
 pub bits-from : (k number at : ℕ) → bitsOf (suc k) (number / 2 ^ at) ≡ bitOf number at ∷ bitsOf k (number / 2 ^ (at + 1))
 unfolding bitsOf bitOf
 bits-from k number at = simp (div-one, div-div-eq-div-mul, add-one, pow-succ', mul-comm)
+
+-- ---- slots
+
+-- the slots of some bytes, and of more
+pub slots-append : (xs ys : List ℕ) → slotsOf (xs ++ ys) ≡ slotsOf xs ++ slotsOf ys
+unfolding flatMap
+slots-append [] ys = refl
+slots-append (x ∷ xs) ys = rw (append-assoc, ← slots-append xs ys)
+
+pub released-more : (n : ℕ) → released (suc n * 8) ≡ released 8 ++ released (n * 8)
+released-more n = let more : suc n * 8 ≡ 8 + n * 8 = omega arith in rw (more, replicate-append-replicate 8 (n * 8) true)
+
+-- ---- a register that hears bits
 
 spread : (d a p : ℕ) → d * p + a * (2 * p) ≡ (d + 2 * a) * p
 spread d a p = simp (add-mul, mul-assoc, mul-left-comm)

@@ -1,13 +1,14 @@
 -- What demand 3 of the order rests on: two tags whose exchanges are equal go on alike as long as no password field lets them
 -- pass, and do nothing but Forced Conversions. Assumes nothing.
 use mathlib.Core.Path.{_≡_, refl, ap}
-use mathlib.Core.Bool.{Bool, true, false, _&&_, false≢true}
+use mathlib.Core.Bool.{Bool, true, false, and-eq-true-iff}
 use Prim.Native.Nat.{ℕ}
 use lib.Dec.{eqb}
 use Rattle.bits.specs.Choose.{if_then_else_}
 use Rattle.memory.specs.declared.Question.{Question}
 use Rattle.memory.specs.Memory as memory
 use Rattle.memory.specs.Phases.{opened, reading, writing, confirms, lets, letsWrite, free}
+use Rattle.memory.specs.Phases.Deeds as deeds
 use Rattle.memory.specs.Phases.Laws as phases
 use Rattle.select.specs.Select as select
 use Rattle.select.specs.Select.Laws.{slots-agree}
@@ -36,7 +37,7 @@ abbrev choosingAsks : Exchange → Bool → Question
 choosingAsks x bit = if select.asksAlarm (x .select) bit then Question.Alarm else Question.Nothing
 
 -- what holds of a memory command's slots and of choosing's holds of every slot: of its question, and of what it gives for any answer
-slot-cases : (P : Question → (ℕ → Slotted) → Type 0) (x : Exchange) (bit : Bool) →
+pub slot-cases : (P : Question → (ℕ → Slotted) → Type 0) (x : Exchange) (bit : Bool) →
     P (memory.asks (x .bus) bit) (λ a. commanded x (memory.slotOf (x .held) (x .bus) bit a)) →
     P (choosingAsks x bit) (λ a. choosing x (select.slotOf (x .select) (x .number) bit (eqb a 1))) →
     P (asks x bit) (slotOf x bit)
@@ -68,7 +69,7 @@ pub free-deed : (x : Exchange) (bit : Bool) (answer : ℕ) → writing (x .bus .
 unfolding free
 free-deed x bit answer shut =
     slot-cases (λ q s. letsWrite q answer ≡ false → free (s answer .deed) ≡ true) x bit
-    (phases.free-deed (x .held) (x .bus) bit answer shut) (λ unlet. refl)
+    (deeds.free-deed (x .held) (x .bus) bit answer shut) (λ unlet. refl)
 
 -- two tags that stand alike and get no password move alike, whatever their images hold, if their alarms agree where they are asked
 pub shut-agree : (x : Exchange) (bit : Bool) (a b : ℕ) → opened (x .bus .stage) ≡ false →
@@ -89,12 +90,8 @@ number-kept x bit answer = slot-cases (λ q s. s answer .exchange .number ≡ x 
 join : (x : Exchange) → select.selectInRange (x .select) ≡ true → memoryInRange (x .held) (x .bus) ≡ true → exchangeInRange x ≡ true
 join x p q = simp (p, q)
 
-parts : (x : Exchange) → exchangeInRange x ≡ true → (select.selectInRange (x .select) ≡ true) × (memoryInRange (x .held) (x .bus) ≡ true)
-parts x h = by (select.selectInRange (x .select)) h
-  where
-    by : (a : Bool) → (a && memoryInRange (x .held) (x .bus)) ≡ true → (a ≡ true) × (memoryInRange (x .held) (x .bus) ≡ true)
-    by true e = (refl, e)
-    by false e = absurd (false≢true e)
+pub parts : (x : Exchange) → exchangeInRange x ≡ true → (select.selectInRange (x .select) ≡ true) × (memoryInRange (x .held) (x .bus) ≡ true)
+parts x h = and-eq-true-iff (select.selectInRange (x .select)) (memoryInRange (x .held) (x .bus)) .0 h
 
 pub new-in-range : (number : ℕ) → exchangeInRange (newExchange number) ≡ true
 new-in-range number = join (newExchange number) select-ranges.new-in-range memory-ranges.new-in-range

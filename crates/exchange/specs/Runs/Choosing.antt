@@ -6,7 +6,7 @@ use mathlib.Core.List.{List, [], _∷_, _++_, flatMap}
 use Prim.Native.Nat.{ℕ, _*_, _<_}
 use native.Mathlib.Omega.{arith}
 use lib.ListN.{length}
-use Rattle.bits.specs.Bits.{bitsOf}
+use Rattle.bits.specs.Bits.{bitsOf, released}
 use Rattle.bits.specs.Bits.Laws.{length-bits}
 use Rattle.memory.specs.declared.Question.{Question}
 use Rattle.select.specs.declared.Choosing.the-variants.{Selected}
@@ -38,7 +38,7 @@ length-search (choice ∷ choices) = omega (arith, length-search choices)
 pub run-way : (answers : Question → ℕ) (x : Exchange) (way : Way) →
     run answers (afterReset x) (waySlots way (x .number)) ≡ quietly (chosen (x .number) (wayMark way) (x .held)) (wayLine way (x .number))
 unfolding waySlots wayLine wayMark romCommand Lasts joins bitsOf
-run-way answers x read = chosen-by answers x 0x33 (select-runs.released 64) (omega arith) (omega arith) (run-read (x .select) (x .number) (alarmIn answers))
+run-way answers x read = chosen-by answers x 0x33 (released 64) (omega arith) (omega arith) (run-read (x .select) (x .number) (alarmIn answers))
 run-way answers x match =
     chosen-by answers x 0x55 (bitsOf 64 (x .number)) (omega arith) (omega (arith, length-bits 64 (x .number))) (run-match (x .select) (x .number) (alarmIn answers))
 run-way answers x search =

@@ -6,7 +6,7 @@ use Prim.Native.Nat.{ℕ, zero, suc, _*_, _^_, _<_}
 use native.Mathlib.Omega.{arith}
 use lib.Dec.{eqb}
 use lib.ListN.{length, replicate}
-use Rattle.bits.specs.Bits.{bitsOf}
+use Rattle.bits.specs.Bits.{bitsOf, released}
 use Rattle.bits.specs.Bits.Laws.{length-bits}
 use Rattle.memory.specs.declared.Bus.{Bus}
 use Rattle.memory.specs.declared.Deed.{Deed}
@@ -57,11 +57,11 @@ module _ (answers : Question → ℕ) (number : ℕ) (mark : Bool) (held : Held)
 
   -- eight slots with the line released: the line carries the byte that goes out, as the image has it in the first one
   pub byte-sent : (s : Sending) {byte : ℕ} → firstByte s held (goTo bus (Stage.Sends s)) (answers (sendAsks s (goTo bus (Stage.Sends s)))) ≡ byte →
-      run answers (commanding number mark held (goTo bus (Stage.Sends s))) (memory-runs.released 8) ≡
+      run answers (commanding number mark held (goTo bus (Stage.Sends s))) (released 8) ≡
       quietly (commanding number mark held (sentWhole s held (goTo bus (Stage.Sends s)) byte)) (bitsOf 8 byte)
   unfolding bitsOf
   byte-sent s out =
-      run-commanded answers number mark held (goTo bus (Stage.Sends s)) (memory-runs.released 8) ∙
+      run-commanded answers number mark held (goTo bus (Stage.Sends s)) (released 8) ∙
       ap (ran number mark) (run-read answers s held (goTo bus (Stage.Sends s)) refl refl out)
 
   -- a byte that is heard and does nothing, and such a field
@@ -100,11 +100,11 @@ zeroOnes (suc n) = false ∷ true ∷ zeroOnes n
 
 -- after a Copy that is done, over slots with the line released
 pub run-copied : (answers : Question → ℕ) (number : ℕ) (mark : Bool) (held : Held) (bus : Bus) (n : ℕ) →
-    run answers (commanding number mark held (goTo bus Stage.Copied)) (memory-runs.released (n * 2)) ≡
+    run answers (commanding number mark held (goTo bus Stage.Copied)) (released (n * 2)) ≡
     quietly (commanding number mark held (goTo bus Stage.Copied)) (zeroOnes n)
 unfolding memory-runs.run memory.slotOf memory.asks memory.stageSlot memory.stageAsks memory.onLine alternating zeroOnes
-run-copied answers number mark held bus n = run-quiet answers number mark held (goTo bus Stage.Copied) (memory-runs.released (n * 2)) (copied n)
+run-copied answers number mark held bus n = run-quiet answers number mark held (goTo bus Stage.Copied) (released (n * 2)) (copied n)
   where
-    copied : (n : ℕ) → memory-runs.run answers held (goTo bus Stage.Copied) (memory-runs.released (n * 2)) ≡ memory-runs.quietly held (goTo bus Stage.Copied) (zeroOnes n)
+    copied : (n : ℕ) → memory-runs.run answers held (goTo bus Stage.Copied) (released (n * 2)) ≡ memory-runs.quietly held (goTo bus Stage.Copied) (zeroOnes n)
     copied zero = refl
     copied (suc n) = let more : suc n * 2 ≡ suc (suc (n * 2)) = omega arith in rw (more, copied n)

@@ -1,8 +1,9 @@
 -- Runs one after the other, and a run as select's or memory's own. Assumes nothing.
-use mathlib.Core.Path.{_≡_, refl, sym, ap, _∙_}
-use mathlib.Core.Bool.{Bool, true, false, not, _&&_, false≢true}
+use mathlib.Core.Path.{_≡_, refl, ap, _∙_}
+use mathlib.Core.Bool.{Bool, true, false, not, and-eq-true-iff}
 use mathlib.Core.List.{List, [], _∷_, _++_, map-append}
 use Prim.Native.Nat.{ℕ}
+use borrow.Author.Tests.{not-true}
 use lib.Dec.{eqb}
 use Rattle.memory.specs.declared.Bus.{Bus}
 use Rattle.memory.specs.declared.Held.{Held}
@@ -64,15 +65,6 @@ choosing-slot answers x bit e =
     (ap (choosing x)
     (slots-agree (x .select) (x .number) bit _ (alarmIn answers) (λ asked. rw asked)))
 
--- both tests are true
-both : (a b : Bool) → (a && b) ≡ true → (a ≡ true) × (b ≡ true)
-both true b e = (refl, e)
-both false b e = absurd (false≢true e)
-
-unchosen : (a : Bool) → not a ≡ true → a ≡ false
-unchosen true e = sym e
-unchosen false e = refl
-
 -- slots in which the tag is still being chosen are select's, and do nothing
 pub run-choosing : (answers : Question → ℕ) (x : Exchange) (bits : List Bool) →
     select-runs.stillChoosing (x .select) (x .number) (alarmIn answers) bits ≡ true →
@@ -81,9 +73,9 @@ pub run-choosing : (answers : Question → ℕ) (x : Exchange) (bits : List Bool
 unfolding run select-runs.run select-runs.stillChoosing
 run-choosing answers x [] h = refl
 run-choosing answers x (bit ∷ bits) h =
-    let parts = both _ _ h in
+    let parts = and-eq-true-iff (not (select.isSelected (x .select))) _ .0 h in
     let next = select.slotOf (x .select) (x .number) bit (alarmIn answers) in
-    let slot : slotOf x bit (answers (asks x bit)) ≡ choosing x next = choosing-slot answers x bit (unchosen _ (parts .0)) in
+    let slot : slotOf x bit (answers (asks x bit)) ≡ choosing x next = choosing-slot answers x bit (not-true (select.isSelected (x .select)) (parts .0)) in
     rw slot (ap (follows (one (choosing x next))) (run-choosing answers (selecting x (next .select)) bits (parts .1)))
 
 -- ---- a chosen tag

@@ -19,12 +19,6 @@ Inv-loop image₀ at count v n rest₀ i₀ image rest i =
 abbrev μ-loop : tie.MeasureT-loop
 μ-loop image₀ at count v n rest₀ i₀ image rest i = n - i
 
-returns : tie.Need-returns Inv-loop μ-loop
-returns c = sym (putWord-past _ _ _ _ (c .if1 .taken))
-
-up-to-8-requires : tie.Need-up-to-8-requires Inv-loop μ-loop
-up-to-8-requires c κs = search needs
-
 -- one byte of what is left
 put : (image : List ℕ) (at n i rest : ℕ) → i < n
     → putWord (set image (at + i) (rest % 256)) (at + (i + 1)) (n - (i + 1)) (rest / 256) ≡ putWord image (at + i) (n - i) rest
@@ -33,24 +27,6 @@ put image at n i rest lt =
     let count : n - i ≡ suc (n - (i + 1)) = omega arith in
     let next : at + (i + 1) ≡ suc (at + i) = omega arith in
     rw (count, putWord, next)
-
-loop-holds : tie.Need-loop-holds Inv-loop μ-loop
-loop-holds c = (omega arith, refl, rw (add-zero, sub-zero))
-
-add-poke : tie.Need-add-poke Inv-loop μ-loop
-add-poke c = omega (arith, c .before .before .before .before .before .before .good .0, c .before .before .before .up-to-8 .ensures)
-
-cast-poke : tie.Need-cast-poke Inv-loop μ-loop
-cast-poke c = omega arith
-
-poke-requires : tie.Need-poke-requires Inv-loop μ-loop
-poke-requires c κs = search needs
-
-add-i : tie.Need-add-i Inv-loop μ-loop
-add-i c = omega arith
-
-loop-less : tie.Need-loop-less Inv-loop μ-loop
-loop-less c = omega arith
 
 loop-again : tie.Need-loop-again Inv-loop μ-loop
 loop-again c =
@@ -63,9 +39,6 @@ loop-again c =
           (put (l .image) (a .at) n (l .i) (l .rest) (c .before .before .before .before .loop-test .taken) ∙ l .inv .2),
     )
 
-same-length : tie.Need-same-length Inv-loop μ-loop
-same-length c = c .before .loop .inv .1
-
 returns-2 : tie.Need-returns-2 Inv-loop μ-loop
 unfolding putWord
 returns-2 c =
@@ -77,17 +50,11 @@ returns-2 c =
 pub put-word-spec : {M : Type 1} → statement M
 put-word-spec =
     tie.close
-    (tie.spec
-    Inv-loop
-    μ-loop
-    returns
-    up-to-8-requires
-    loop-holds
-    add-poke
-    cast-poke
-    poke-requires
-    add-i
-    loop-less
-    loop-again
-    same-length
+    (tie.spec Inv-loop μ-loop
+    (λ c. sym (putWord-past _ _ _ _ (c .if1 .taken)))
+    (search needs)
+    (λ c. (omega arith, refl, rw (add-zero, sub-zero)))
+    (λ c. omega (arith, c .before .before .before .before .before .before .good .0, c .before .before .before .up-to-8 .ensures))
+    (λ c. omega arith) (search needs) (λ c. omega arith) (λ c. omega arith) loop-again
+    (λ c. c .before .loop .inv .1)
     returns-2)

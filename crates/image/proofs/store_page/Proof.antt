@@ -21,9 +21,6 @@ Inv-loop image₀ address pad page i₀ image i =
 abbrev μ-loop : tie.MeasureT-loop
 μ-loop image₀ address pad page i₀ image i = 32 - i
 
-sub-page : tie.Need-sub-page Inv-loop μ-loop
-sub-page c = omega arith
-
 -- one byte of what is left
 next : (image pad : List ℕ) (page i : ℕ) → i < length pad
     → storedRun (storedAt image (page + i) (getD pad i 0)) (page + (i + 1)) (drop (i + 1) pad) ≡ storedRun image (page + i) (drop i pad)
@@ -39,24 +36,6 @@ loop-holds c =
     let there : a .address - a .address % 32 + a .address % 32 ≡ a .address = omega arith in
     (omega arith, refl, rw there)
 
-cast-b : tie.Need-cast-b Inv-loop μ-loop
-cast-b c = omega arith
-
-array-read-b : tie.Need-array-read-b Inv-loop μ-loop
-array-read-b c = omega arith
-
-add-store : tie.Need-add-store Inv-loop μ-loop
-add-store c = omega arith
-
-store-requires : tie.Need-store-requires Inv-loop μ-loop
-store-requires c κs = search needs
-
-add-i : tie.Need-add-i Inv-loop μ-loop
-add-i c = omega arith
-
-loop-less : tie.Need-loop-less Inv-loop μ-loop
-loop-less c = omega arith
-
 loop-again : tie.Need-loop-again Inv-loop μ-loop
 loop-again c =
     let start = c .before .before .before .before .before .before .before in
@@ -68,9 +47,6 @@ loop-again c =
       rw (c .before .before .store .ensures)
           (next (l .image) (a .t2) (a .address - a .address % 32) (l .i) (omega arith) ∙ l .inv .2),
     )
-
-same-length : tie.Need-same-length Inv-loop μ-loop
-same-length c = c .before .loop .inv .1
 
 returns : tie.Need-returns Inv-loop μ-loop
 unfolding storedRun
@@ -84,17 +60,7 @@ returns c =
 pub store-page-spec : {M : Type 1} → statement M
 store-page-spec =
     tie.close
-    (tie.spec
-    Inv-loop
-    μ-loop
-    sub-page
-    loop-holds
-    cast-b
-    array-read-b
-    add-store
-    store-requires
-    add-i
-    loop-less
-    loop-again
-    same-length
+    (tie.spec Inv-loop μ-loop (λ c. omega arith) loop-holds (λ c. omega arith) (λ c. omega arith) (λ c. omega arith) (search needs)
+    (λ c. omega arith) (λ c. omega arith) loop-again
+    (λ c. c .before .loop .inv .1)
     returns)

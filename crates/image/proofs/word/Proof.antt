@@ -18,12 +18,6 @@ Inv-loop image at count i₀ v₀ i v = (i ≤ i₀) × (v ≡ wordAt image (at 
 abbrev μ-loop : tie.MeasureT-loop
 μ-loop image at count i₀ v₀ i v = i
 
-returns : tie.Need-returns Inv-loop μ-loop
-returns c = sym (word-past _ _ _ (c .if1 .taken))
-
-up-to-8-requires : tie.Need-up-to-8-requires Inv-loop μ-loop
-up-to-8-requires c κs = search needs
-
 -- one byte more, below those that are gathered
 gathered : (image : List ℕ) (at n i : ℕ) → 0 < i → i ≤ n
     → wordAt image (at + i) (n - i) * 256 + getD image (at + (i - 1)) 0 ≡ wordAt image (at + (i - 1)) (n - (i - 1))
@@ -44,31 +38,6 @@ small c =
     (word-lt (a .image .now) (a .at + i) (n - i) (λ k. c .before .before .before .before .shared-slice-known .given k .fits)))
     (pow-le-pow-right {n = 256} (omega arith) {i = n - i} {j = 7} (omega (arith, c .before .before .up-to-8 .ensures)))
 
-loop-holds : tie.Need-loop-holds Inv-loop μ-loop
-unfolding wordAt
-loop-holds c = (omega arith, rw (sub-self (c .up-to-8 .result)))
-
-sub-i : tie.Need-sub-i Inv-loop μ-loop
-sub-i c = omega arith
-
-mul-v : tie.Need-mul-v Inv-loop μ-loop
-mul-v c = omega (arith, small c)
-
-add-peek : tie.Need-add-peek Inv-loop μ-loop
-add-peek c = omega (arith, c .before .before .before .before .before .good .0, c .before .before .up-to-8 .ensures)
-
-peek-requires : tie.Need-peek-requires Inv-loop μ-loop
-peek-requires c κs = search needs
-
-cast-v : tie.Need-cast-v Inv-loop μ-loop
-cast-v c = omega arith
-
-add-v : tie.Need-add-v Inv-loop μ-loop
-add-v c = omega (arith, small (c .before))
-
-loop-less : tie.Need-loop-less Inv-loop μ-loop
-loop-less c = omega arith
-
 loop-again : tie.Need-loop-again Inv-loop μ-loop
 loop-again c =
     let a = c .before .before .before .before .before .before .args in
@@ -85,21 +54,18 @@ returns-2 c =
     let done : c .before .loop .i ≡ 0 = omega arith in
     c .before .loop .inv .1 ∙ rw (done, c .before .before .up-to-8 .ensures, add-zero, sub-zero)
 
+loop-holds : tie.Need-loop-holds Inv-loop μ-loop
+unfolding wordAt
+loop-holds c = (omega arith, rw (sub-self (c .up-to-8 .result)))
+
 pub word-spec : {M : Type 1} → statement M
 word-spec =
     tie.close
-    (tie.spec
-    Inv-loop
-    μ-loop
-    returns
-    up-to-8-requires
-    loop-holds
-    sub-i
-    mul-v
-    add-peek
-    peek-requires
-    cast-v
-    add-v
-    loop-less
-    loop-again
-    returns-2)
+    (tie.spec Inv-loop μ-loop
+    (λ c. sym (word-past _ _ _ (c .if1 .taken)))
+    (search needs) loop-holds (λ c. omega arith)
+    (λ c. omega (arith, small c))
+    (λ c. omega (arith, c .before .before .before .before .before .good .0, c .before .before .up-to-8 .ensures))
+    (search needs) (λ c. omega arith)
+    (λ c. omega (arith, small (c .before)))
+    (λ c. omega arith) loop-again returns-2)

@@ -1,16 +1,16 @@
 -- When the answers are yes and when no, and what they depend on. Assumes nothing.
-use mathlib.Core.Path.{_≡_, refl}
+use mathlib.Core.Path.{_≡_, refl, _∙_}
 use mathlib.Core.Bool.{Bool, true, false, not, _&&_, _||_, or-true, and-false, false≢true}
 use mathlib.Core.List.{List}
 use mathlib.Core.Logic.{_≢_}
 use Prim.Native.Nat.{ℕ, _<_}
 use native.Mathlib.Omega.{arith}
 use borrow.Author.Tests.{eq-eqb, ne-eqb, lt-ltb, ltb-true}
-use lib.Dec.{T, eqb, ltb}
-use Rattle.bits.specs.Choose.{if_then_else_}
+use lib.Dec.{T, ltb}
+use Rattle.bits.specs.Choose.{choice}
 use Rattle.image.specs.Answers.{alarmed, checked, mayRead, mayControl, mayCopy}
 use Rattle.image.specs.Keeps.{Run, Keeps, free, free-part, word-kept, flag-kept}
-use Rattle.image.specs.Registers.{mip, readPassword, fullPassword}
+use Rattle.image.specs.Registers.{mip, readPassword, fullPassword, passwordControl}
 
 -- ---- no, with checking on
 
@@ -39,11 +39,7 @@ control-open image field off = rw off
 -- and the right ones pass in any case
 pub control-right : (image : List ℕ) → mayControl image (fullPassword image) ≡ true
 unfolding mayControl
-control-right image = by-test (checked image)
-  where
-    by-test : (t : Bool) → (if t then eqb (fullPassword image) (fullPassword image) else true) ≡ true
-    by-test true = eq-eqb (fullPassword image) (fullPassword image) refl
-    by-test false = refl
+control-right image = choice (λ (b : Bool). b ≡ true) (checked image) (eq-eqb (fullPassword image) (fullPassword image) refl) refl
 
 -- what may control may read, and so may the read password
 pub read-control : (image : List ℕ) (field : ℕ) → mayControl image field ≡ true → mayRead image field ≡ true
@@ -87,29 +83,44 @@ copy-mission image field address m e =
 
 -- ---- what they depend on: 0214h, 0215h and 0227h-0237h
 
-module _ {runs : List Run} {before after : List ℕ} (kept : Keeps runs before after) where
-  pub alarmed-kept : T (free runs 0x0214 1) → alarmed after ≡ alarmed before
-  unfolding alarmed
-  alarmed-kept t = rw (flag-kept 0x0214 7 kept t, flag-kept 0x0214 1 kept t, flag-kept 0x0214 0 kept t)
+pub alarmed-kept : {runs : List Run} {before after : List ℕ} → Keeps runs before after → T (free runs 0x0214 1) → alarmed after ≡ alarmed before
+unfolding alarmed
+alarmed-kept kept t = rw (flag-kept 0x0214 7 kept t, flag-kept 0x0214 1 kept t, flag-kept 0x0214 0 kept t)
 
-  pub checked-kept : T (free runs 0x0227 1) → checked after ≡ checked before
-  unfolding checked
-  checked-kept t = rw (kept .bytes 0x0227 t)
+pub checked-kept : {runs : List Run} {before after : List ℕ} → Keeps runs before after → T (free runs 0x0227 1) → checked after ≡ checked before
+unfolding checked
+checked-kept kept t = rw (kept .bytes 0x0227 t)
 
-  module _ (t : T (free runs 0x0227 17)) where
-    pub mayControl-kept : (field : ℕ) → mayControl after field ≡ mayControl before field
-    unfolding mayControl
-    mayControl-kept field =
-        rw (
-          checked-kept (free-part runs 0x0227 17 0x0227 1 (omega arith) (omega arith) t),
-          word-kept 0x0230 8 kept (free-part runs 0x0227 17 0x0230 8 (omega arith) (omega arith) t),
-        )
+-- 0227h-0237h: whether passwords are checked, and which they are
+pub record SameKeys (before after : List ℕ) : Type 0 where
+  pub control : passwordControl after ≡ passwordControl before
+  pub read : readPassword after ≡ readPassword before
+  pub full : fullPassword after ≡ fullPassword before
 
-    pub mayRead-kept : (field : ℕ) → mayRead after field ≡ mayRead before field
-    unfolding mayRead
-    mayRead-kept field =
-        rw (mayControl-kept field, word-kept 0x0228 8 kept (free-part runs 0x0227 17 0x0228 8 (omega arith) (omega arith) t))
+pub keys-same : {image : List ℕ} → SameKeys image image
+keys-same = record { control = refl; read = refl; full = refl }
 
-    pub mayCopy-kept : (field address : ℕ) → T (free runs 0x0215 1) → mayCopy after field address ≡ mayCopy before field address
-    unfolding mayCopy
-    mayCopy-kept field address u = rw (mayControl-kept field, flag-kept 0x0215 1 kept u)
+pub keys-then : {a b c : List ℕ} → SameKeys a b → SameKeys b c → SameKeys a c
+keys-then p q = record { control = q .control ∙ p .control; read = q .read ∙ p .read; full = q .full ∙ p .full }
+
+pub keys-kept : {runs : List Run} {before after : List ℕ} → Keeps runs before after → T (free runs 0x0227 17) → SameKeys before after
+keys-kept {runs} kept t =
+    record {
+      control = kept .bytes 0x0227 (free-part runs 0x0227 17 0x0227 1 (omega arith) (omega arith) t);
+      read = word-kept 0x0228 8 kept (free-part runs 0x0227 17 0x0228 8 (omega arith) (omega arith) t);
+      full = word-kept 0x0230 8 kept (free-part runs 0x0227 17 0x0230 8 (omega arith) (omega arith) t);
+    }
+
+-- on these the two that ask for a password depend; on Copy's address besides, and MIP
+module _ {before after : List ℕ} (same : SameKeys before after) (field : ℕ) where
+  pub mayControl-same : mayControl after field ≡ mayControl before field
+  unfolding mayControl checked
+  mayControl-same = rw (same .control, same .full)
+
+  pub mayRead-same : mayRead after field ≡ mayRead before field
+  unfolding mayRead
+  mayRead-same = rw (mayControl-same, same .read)
+
+  pub mayCopy-same : (address : ℕ) → mip after ≡ mip before → mayCopy after field address ≡ mayCopy before field address
+  unfolding mayCopy
+  mayCopy-same address e = rw (mayControl-same, e)

@@ -2,7 +2,7 @@
 -- place and size. For two fields whose places are numerals, `apart` computes, and `tt` closes it. Assumes nothing.
 use mathlib.Core.Path.{_≡_, refl, sym, _∙_, subst}
 use mathlib.Core.Bool.{Bool, true, false, not, _&&_, _||_, Bool·beq}
-use mathlib.Core.List.{List, [], _∷_}
+use mathlib.Core.List.{List}
 use mathlib.Core.Logic.{_≢_, _⊎_, inl, inr, ⊎-elim, dite}
 use Prim.Native.Nat.{ℕ, zero, suc, _+_, _-_, _*_, _/_, _%_, _^_, _≤_, _<_}
 use native.Mathlib.Nat.{mod-one, one-le-pow, pow-suc}
@@ -12,34 +12,26 @@ use borrow.Author.Tests.{lt-ltb, ltb-true, eq-eqb, ne-eqb}
 use lib.Arith.{mod-mul}
 use lib.Bits.{bitAnd, bitOr, and-shr, or-shr, and-mod, or-mod, and-le-r, or-lt}
 use lib.Dec.{T, T-not, leb→le, le→leb, leb, ltb, eqb, eqb-refl, ltb→lt}
-use lib.ListN.{length, getD, set, replicate, length-set, length-replicate, getD-replicate, List·getD-eq-default}
+use lib.ListN.{length, getD, set, length-set, List·getD-eq-default}
 use lib.Pow.{pow-lt}
 use lib.Seq.{getD-set-same, getD-set-other, set-out}
 use Rattle.bits.specs.Bits.{digit, bitOf}
-use Rattle.bits.specs.Bits.Laws.{bit-past}
-use Rattle.bits.specs.Choose.{if_then_else_}
-use Rattle.image.specs.Each.{eachPair, eachPair-at, beq-eq}
+use Rattle.bits.specs.Bytes.{Bytes, bytes-set, blank, byte-blank}
+use Rattle.bits.specs.Choose.{if_then_else_, either, choice}
+use Rattle.bits.specs.Tests.{or-cases, or-of, beq-eq}
+use Rattle.image.specs.Each.{eachPair, eachPair-at}
 use Rattle.image.specs.Fields.{wordAt, putWord, flagAt, withBit, putFlag, apart}
 
 -- ---- apart
 
--- one of two tests passes
-pub either : (p q : Bool) → T (p || q) → T p ⊎ T q
-either true q t = inl tt
-either false q t = inr t
-
-pub either-of : (p q : Bool) → T p ⊎ T q → T (p || q)
-either-of true q h = tt
-either-of false q h = ⊎-elim (λ t. absurd t) (λ t. t) h
-
 -- two runs are apart exactly if the one ends before the other begins
 pub apart-cases : (at m at' n : ℕ) → T (apart at m at' n) → (at + m ≤ at') ⊎ (at' + n ≤ at)
 apart-cases at m at' n t =
-    ⊎-elim (λ l. inl (leb→le _ _ l)) (λ l. inr (leb→le _ _ l)) (either (leb (at + m) at') (leb (at' + n) at) t)
+    ⊎-elim (λ l. inl (leb→le _ _ l)) (λ l. inr (leb→le _ _ l)) (or-cases (leb (at + m) at') (leb (at' + n) at) t)
 
 pub apart-of : (at m at' n : ℕ) → (at + m ≤ at') ⊎ (at' + n ≤ at) → T (apart at m at' n)
 apart-of at m at' n h =
-    either-of (leb (at + m) at') (leb (at' + n) at) (⊎-elim (λ l. inl (le→leb _ _ l)) (λ l. inr (le→leb _ _ l)) h)
+    or-of (leb (at + m) at') (leb (at' + n) at) (⊎-elim (λ l. inl (le→leb _ _ l)) (λ l. inr (le→leb _ _ l)) h)
 
 pub apart-sym : (at m at' n : ℕ) → T (apart at m at' n) → T (apart at' n at m)
 apart-sym at m at' n t = apart-of at' n at m (⊎-elim inr inl (apart-cases at m at' n t))
@@ -50,18 +42,6 @@ apart-part at m at' n k j lo hi t =
     apart-of at m k j (⊎-elim (λ l. inl (omega arith)) (λ l. inr (omega arith)) (apart-cases at m at' n t))
 
 -- ---- bytes
-
--- every element is a byte
-abbrev pub Bytes : List ℕ → Type 0
-Bytes image = (k : ℕ) → getD image k 0 < 256
-
--- a store of a byte leaves bytes
-pub bytes-set : (image : List ℕ) (at b : ℕ) → Bytes image → b < 256 → Bytes (set image at b)
-bytes-set [] at b bytes small k = bytes k
-bytes-set (x ∷ xs) zero b bytes small zero = small
-bytes-set (x ∷ xs) zero b bytes small (suc k) = bytes (suc k)
-bytes-set (x ∷ xs) (suc at) b bytes small zero = bytes zero
-bytes-set (x ∷ xs) (suc at) b bytes small (suc k) = bytes-set xs at b (λ i. bytes (suc i)) small k
 
 -- a store leaves every other byte
 pub byte-set-other : (image : List ℕ) (at b k : ℕ) → T (apart at 1 k 1) → getD (set image at b) k 0 ≡ getD image k 0
@@ -207,28 +187,17 @@ putFlag-set image at i b h = rw (lt-ltb i 8 h)
 -- a put keeps the length
 pub length-putFlag : (image : List ℕ) (at i : ℕ) (b : Bool) → length (putFlag image at i b) ≡ length image
 unfolding putFlag
-length-putFlag image at i b = by-test (ltb i 8)
-  where
-    by-test : (t : Bool) → length (if t then set image at (withBit (getD image at 0) i b) else image) ≡ length image
-    by-test true = length-set image at (withBit (getD image at 0) i b)
-    by-test false = refl
+length-putFlag image at i b = choice (λ (l : List ℕ). length l ≡ length image) (ltb i 8) (length-set image at _) refl
 
 -- it leaves bytes
 pub bytes-putFlag : (image : List ℕ) (at i : ℕ) (b : Bool) → Bytes image → Bytes (putFlag image at i b)
 unfolding putFlag
-bytes-putFlag image at i b bytes = by-test (ltb i 8) refl
-  where
-    by-test : (t : Bool) → ltb i 8 ≡ t → Bytes (if t then set image at (withBit (getD image at 0) i b) else image)
-    by-test true e = bytes-set image at _ bytes (withBit-lt (getD image at 0) i b (ltb-true i 8 e))
-    by-test false e = bytes
+bytes-putFlag image at i b bytes =
+    either Bytes (ltb i 8) (λ e. bytes-set image at _ bytes (withBit-lt (getD image at 0) i b (ltb-true i 8 e))) (λ e. bytes)
 
 elsewhere : (image : List ℕ) (at i : ℕ) (b : Bool) (k : ℕ) → k ≢ at → getD (putFlag image at i b) k 0 ≡ getD image k 0
 unfolding putFlag
-elsewhere image at i b k ne = by-test (ltb i 8)
-  where
-    by-test : (t : Bool) → getD (if t then set image at (withBit (getD image at 0) i b) else image) k 0 ≡ getD image k 0
-    by-test true = getD-set-other image at k _ 0 ne
-    by-test false = refl
+elsewhere image at i b k ne = choice (λ (l : List ℕ). getD l k 0 ≡ getD image k 0) (ltb i 8) (getD-set-other image at k _ 0 ne) refl
 
 -- it leaves every other byte
 pub byte-putFlag-other : (image : List ℕ) (at i : ℕ) (b : Bool) (k : ℕ) → T (apart at 1 k 1)
@@ -277,7 +246,7 @@ pub flag-putFlag-other : (image : List ℕ) (at i : ℕ) (b : Bool) (at' j : ℕ
 unfolding flagAt
 flag-putFlag-other image at i b at' j ti tj t =
     dite (ℕ-discrete at' at)
-    (λ e. rw e (beside image at i b j (ltb→lt i 8 ti) (ltb→lt j 8 tj) (λ same. other e same (either (apart at 1 at' 1) (not (eqb i j)) t))))
+    (λ e. rw e (beside image at i b j (ltb→lt i 8 ti) (ltb→lt j 8 tj) (λ same. other e same (or-cases (apart at 1 at' 1) (not (eqb i j)) t))))
     (λ ne. rw (elsewhere image at i b at' ne))
   where
     other : at' ≡ at → i ≡ j → T (apart at 1 at' 1) ⊎ T (not (eqb i j)) → ⊥
@@ -286,19 +255,7 @@ flag-putFlag-other image at i b at' j ti tj t =
 
 -- ---- a blank image, n bytes of zero
 
-abbrev pub blank : ℕ → List ℕ
-blank n = replicate n 0
-
-pub byte-blank : (n k : ℕ) → getD (blank n) k 0 ≡ 0
-byte-blank n k =
-    dite (decLt k n) (λ lt. getD-replicate n k 0 0 lt)
-    (λ ge. List·getD-eq-default (blank n) 0 (rw (length-replicate {A = ℕ} n 0) (omega arith)))
-
 pub word-blank : (n at count : ℕ) → wordAt (blank n) at count ≡ 0
 unfolding wordAt
 word-blank n at zero = refl
 word-blank n at (suc count) = rw (byte-blank n at, word-blank n (suc at) count)
-
-pub flag-blank : (n at i : ℕ) → flagAt (blank n) at i ≡ false
-unfolding flagAt
-flag-blank n at i = rw (byte-blank n at) (bit-past 0 (omega arith) (omega arith))

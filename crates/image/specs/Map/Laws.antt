@@ -1,11 +1,10 @@
 -- What the map says of an address, region by region. Assumes nothing.
 use mathlib.Core.Path.{_≡_, refl}
-use mathlib.Core.Bool.{Bool, true, false}
 use Prim.Native.Nat.{ℕ, _-_, _≤_, _<_}
 use native.Mathlib.Omega.{arith}
 use borrow.Author.Tests.{ltb-true, ltb-false, lt-ltb, le-ltb}
 use lib.Dec.{ltb}
-use Rattle.bits.specs.Choose.{if_then_else_}
+use Rattle.bits.specs.Choose.{either}
 use Rattle.image.specs.Map.{regionAt, indexOf}
 use Rattle.image.specs.declared.Region.{Region}
 use Rattle.image.specs.declared.Region.the-variants.{User, Registers, Calibration, Reserved, Log}
@@ -60,23 +59,12 @@ pub data Lies (a : ℕ) : Region → Type 0 where
 -- every address lies where the map has it
 pub region-lies : (a : ℕ) → Lies a (regionAt a)
 unfolding regionAt
-region-lies a = by-tests (ltb a 0x0200) (ltb a 0x0240) (ltb a 0x0280) (ltb a 0x1000) (ltb a 0x3000) refl refl refl refl refl
-  where
-    by-tests : (t₁ t₂ t₃ t₄ t₅ : Bool) → ltb a 0x0200 ≡ t₁ → ltb a 0x0240 ≡ t₂ → ltb a 0x0280 ≡ t₃ → ltb a 0x1000 ≡ t₄
-        → ltb a 0x3000 ≡ t₅
-        → Lies a
-        (if t₁ then User a
-        else if t₂ then Registers (a - 0x0200)
-        else if t₃ then Calibration (a - 0x0240)
-        else if t₄ then Reserved
-        else if t₅ then Log (a - 0x1000)
-        else Reserved)
-    by-tests true t₂ t₃ t₄ t₅ e₁ e₂ e₃ e₄ e₅ = in-user (ltb-true _ _ e₁)
-    by-tests false true t₃ t₄ t₅ e₁ e₂ e₃ e₄ e₅ = in-registers (ltb-false _ _ e₁) (ltb-true _ _ e₂)
-    by-tests false false true t₄ t₅ e₁ e₂ e₃ e₄ e₅ = in-calibration (ltb-false _ _ e₂) (ltb-true _ _ e₃)
-    by-tests false false false true t₅ e₁ e₂ e₃ e₄ e₅ = in-reserved (ltb-false _ _ e₃) (ltb-true _ _ e₄)
-    by-tests false false false false true e₁ e₂ e₃ e₄ e₅ = in-log (ltb-false _ _ e₄) (ltb-true _ _ e₅)
-    by-tests false false false false false e₁ e₂ e₃ e₄ e₅ = past-log (ltb-false _ _ e₅)
+region-lies a =
+    either (Lies a) (ltb a 0x0200) (λ e₁. in-user (ltb-true _ _ e₁))
+    (λ e₁. either (Lies a) (ltb a 0x0240) (λ e₂. in-registers (ltb-false _ _ e₁) (ltb-true _ _ e₂))
+    (λ e₂. either (Lies a) (ltb a 0x0280) (λ e₃. in-calibration (ltb-false _ _ e₂) (ltb-true _ _ e₃))
+    (λ e₃. either (Lies a) (ltb a 0x1000) (λ e₄. in-reserved (ltb-false _ _ e₃) (ltb-true _ _ e₄))
+    (λ e₄. either (Lies a) (ltb a 0x3000) (λ e₅. in-log (ltb-false _ _ e₄) (ltb-true _ _ e₅)) (λ e₅. past-log (ltb-false _ _ e₅))))))
 
 -- there are 64 registers
 pub register-offset-lt : (a : ℕ) {o : ℕ} → regionAt a ≡ Registers o → o < 64
@@ -96,18 +84,6 @@ index-low a low = at (region-lies a)
   where
     at : {r : Region} → Lies a r → indexOf r ≡ a
     at (in-user h) = refl
-    at (in-registers h k) = omega arith
-    at (in-calibration h k) = omega arith
-    at (in-reserved h k) = omega arith
-    at (in-log h k) = omega arith
-    at (past-log h) = omega arith
-
--- from 0280h on what lies in the image lies past the low part
-pub index-high : (a : ℕ) → 0x0280 ≤ a → 0x0280 ≤ indexOf (regionAt a)
-index-high a high = at (region-lies a)
-  where
-    at : {r : Region} → Lies a r → 0x0280 ≤ indexOf r
-    at (in-user h) = omega arith
     at (in-registers h k) = omega arith
     at (in-calibration h k) = omega arith
     at (in-reserved h k) = omega arith

@@ -12,9 +12,10 @@ use lib.Dec.{eqb}
 use lib.ListN.{getD}
 use Rattle.bits.specs.Bits.{bitOf}
 use Rattle.bits.specs.Bits.Laws.{bit-past}
+use Rattle.bits.specs.Bytes.{Bytes}
 use Rattle.bits.specs.Choose.{if_then_else_}
 use Rattle.image.specs.Fields.{flagAt}
-use Rattle.image.specs.Fields.Laws.{Bytes, bit-and, bit-or}
+use Rattle.image.specs.Fields.Laws.{bit-and, bit-or}
 use Rattle.image.specs.Map.{regionAt, indexOf, byteIn}
 use Rattle.image.specs.Map.Laws.{region-user, region-registers, region-calibration, region-reserved, region-log, index-low}
 use Rattle.image.specs.Sent.{sentByte, sentIn, sentAt}

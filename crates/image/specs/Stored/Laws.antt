@@ -1,22 +1,26 @@
 -- What a store changes, and what it leaves. A byte that Copy can change lies in the image at its address. Assumes nothing.
 use mathlib.Core.Path.{_≡_, refl, _∙_}
-use mathlib.Core.Bool.{true}
+use mathlib.Core.Bool.{true, not, _&&_, _||_}
 use mathlib.Core.List.{List, [], _∷_}
 use mathlib.Core.Logic.{_≢_, _⊎_, inl, inr, ⊎-elim, dite}
 use Prim.Native.Nat.{ℕ, zero, suc, _+_, _-_, _%_, _≤_, _<_}
-use native.Mathlib.Nat.{add-zero, not-suc-le-zero, le-of-suc-le-suc}
+use native.Mathlib.Nat.{add-zero, not-suc-le-zero, le-of-suc-le-suc, mod-eq-of-lt}
 use native.Mathlib.Decide.{decLt}
 use native.Mathlib.Omega.{arith}
-use lib.Bits.{bitAnd, and-le-r, or-lt}
-use lib.Ieee.Fits.{and-l, and-i}
-use lib.ListN.{length, getD, set, drop, length-set, length-drop}
+use lib.Bits.{bitAnd, and-le-r, or-lt, and-mask, and-zero-r, or-zero-r}
+use lib.Dec.{T, T-not, eqb, eqb→eq}
+use lib.Ieee.Fits.{and-l, and-i, and-r}
+use lib.ListN.{length, getD, set, drop, length-set, length-drop, List·getD-eq-default}
 use lib.Seq.{getD-set-same, getD-set-other, set-getD, getD-drop}
+use Rattle.bits.specs.Bytes.{Bytes, bytes-set}
+use Rattle.bits.specs.Tests.{or-cases}
+use Rattle.image.specs.Each.{each-at}
 use Rattle.image.specs.Fields.{apart}
-use Rattle.image.specs.Fields.Laws.{Bytes, bytes-set, apart-cases, apart-of}
-use Rattle.image.specs.Keeps.{Keeps}
+use Rattle.image.specs.Fields.Laws.{apart-cases, apart-of}
+use Rattle.image.specs.Keeps.{Keeps, Run, free}
 use Rattle.image.specs.Map.{regionAt, indexOf, byteIn}
 use Rattle.image.specs.Map.Laws.{Lies, in-user, in-registers, in-calibration, in-reserved, in-log, past-log, region-lies}
-use Rattle.image.specs.Map.Laws.{region-user, region-registers, region-calibration, index-low}
+use Rattle.image.specs.Map.Laws.{region-registers, index-low}
 use Rattle.image.specs.Stored.{blend, storedByte, storedIn, storedAt, storedRun, storedPage}
 use Rattle.image.specs.Tables.{writable}
 use Rattle.image.specs.Tables.Laws.{writable-lt}
@@ -34,15 +38,6 @@ stored-in image a b e = rw e
 pub stored-low : (image : List ℕ) (a b : ℕ) → a < 0x0280 → storedAt image a b ≡ set image a (storedByte (regionAt a) (getD image a 0) b)
 unfolding storedAt storedIn
 stored-low image a b h = rw (index-low a h)
-
--- user memory and calibration take the byte as it is
-pub stored-user : (image : List ℕ) (a b : ℕ) → a < 0x0200 → storedAt image a b ≡ set image a b
-unfolding storedByte
-stored-user image a b h = stored-low image a b (omega arith) ∙ rw (region-user a h)
-
-pub stored-calibration : (image : List ℕ) (a b : ℕ) → 0x0240 ≤ a → a < 0x0280 → storedAt image a b ≡ set image a b
-unfolding storedByte
-stored-calibration image a b h k = stored-low image a b k ∙ rw (region-calibration a h k)
 
 -- a register takes the writable bits
 pub stored-register : (image : List ℕ) (a b : ℕ) → 0x0200 ≤ a → a < 0x0240
@@ -138,11 +133,6 @@ storedRun-at image a (b ∷ bs) (suc i) h inside =
     (storedRun-at (storedAt image a b) (suc a) bs i (le-of-suc-le-suc h) (rw (length-stored image a b) (omega arith))
     ∙ rw (stored-other image a b (suc a + i) (λ e. omega arith)))
 
-pub storedRun-high : (image : List ℕ) (a : ℕ) (bs : List ℕ) → 0x0280 ≤ a → storedRun image a bs ≡ image
-unfolding storedRun
-storedRun-high image a [] h = refl
-storedRun-high image a (b ∷ bs) h = rw (stored-high image a b h) (storedRun-high image (suc a) bs (omega arith))
-
 pub bytes-storedRun : (image : List ℕ) (a : ℕ) (bs : List ℕ) → Bytes image → Bytes bs → Bytes (storedRun image a bs)
 unfolding storedRun
 bytes-storedRun image a [] bytes small = bytes
@@ -170,17 +160,87 @@ storedPage-at image pad a k whole lo hi inside =
     (rw (getD-drop (a % 32) pad (k - a) 0, offset) at
     (storedRun-at image a (drop (a % 32) pad) (k - a) (rw (rest-length pad a whole) (omega arith)) (omega arith)))
 
--- a Copy at 0280h or above stores nothing
-pub storedPage-high : (image pad : List ℕ) (a : ℕ) → 0x0280 ≤ a → storedPage image pad a ≡ image
-unfolding storedPage
-storedPage-high image pad a high = storedRun-high image a (drop (a % 32) pad) high
+-- so a byte after a Copy is what it was, or, in the rest of the page, what its region stores
+storedPage-cases : (P : ℕ → Type 0) (image pad : List ℕ) (a k : ℕ) → length pad ≡ 32 → P (getD image k 0)
+    → (a ≤ k → k < a + (32 - a % 32) → P (storedByte (regionAt k) (getD image k 0) (getD pad (k % 32) 0)))
+    → P (getD (storedPage image pad a) k 0)
+storedPage-cases P image pad a k whole same stored =
+    dite (decLt k (length image))
+    (λ inside.
+    dite (decLt k a) (λ below. outside (inr (omega arith)))
+    (λ from.
+    dite (decLt k (a + (32 - a % 32)))
+    (λ within. rw (storedPage-at image pad a k whole (omega arith) within inside) (stored (omega arith) within))
+    (λ past. outside (inl (omega arith)))))
+    (λ past.
+    let long = keeps-storedPage image pad a whole .lengths in
+    let none : length image ≤ k = omega arith in
+    let after : length (storedPage image pad a) ≤ k = omega arith in
+    rw (List·getD-eq-default (storedPage image pad a) 0 after) (rw (List·getD-eq-default image 0 none) at same))
+  where
+    outside : (a + (32 - a % 32) ≤ k) ⊎ (k + 1 ≤ a) → P (getD (storedPage image pad a) k 0)
+    outside o =
+        rw (keeps-storedPage image pad a whole .bytes k
+        (and-i (apart a (32 - a % 32) k 1) true (apart-of a (32 - a % 32) k 1 o) tt))
+        same
 
--- one outside the registers leaves them
-pub storedPage-registers : (image pad : List ℕ) (a k : ℕ) → length pad ≡ 32 → (a < 0x0200) ⊎ (0x0240 ≤ a) → 0x0200 ≤ k → k < 0x0240
-    → getD (storedPage image pad a) k 0 ≡ getD image k 0
-storedPage-registers image pad a k whole h lo hi =
-    keeps-storedPage image pad a whole .bytes k
-    (and-i (apart a (32 - a % 32) k 1) true (apart-of a (32 - a % 32) k 1 (⊎-elim (λ l. inl (omega arith)) (λ l. inr (omega arith)) h)) tt)
+-- a Copy outside the registers leaves all but user memory and calibration
+pub keeps-apart : (image pad : List ℕ) (a : ℕ) → length pad ≡ 32 → (a < 0x0200) ⊎ (0x0240 ≤ a)
+    → Keeps ((0, 512) ∷ (576, 64) ∷ []) image (storedPage image pad a)
+keeps-apart image pad a whole out =
+    record {
+      lengths = keeps-storedPage image pad a whole .lengths;
+      bytes = λ k t. storedPage-cases (λ b. b ≡ getD image k 0) image pad a k whole refl (stays k t);
+    }
+  where
+    stays : (k : ℕ) → T (free ((0, 512) ∷ (576, 64) ∷ []) k 1) → a ≤ k → k < a + (32 - a % 32)
+        → storedByte (regionAt k) (getD image k 0) (getD pad (k % 32) 0) ≡ getD image k 0
+    stays k t from to =
+        let user = apart-cases 0 512 k 1 (and-l (apart 0 512 k 1) (apart 576 64 k 1 && true) t) in
+        let calibration = apart-cases 576 64 k 1 (and-l (apart 576 64 k 1) true (and-r (apart 0 512 k 1) (apart 576 64 k 1 && true) t)) in
+        stays-high k _ _
+        (⊎-elim (λ u. ⊎-elim (λ c. c) (λ c. ⊎-elim (λ l. absurd (omega arith)) (λ l. absurd (omega arith)) out) calibration)
+        (λ u. absurd (omega arith))
+        user)
+
+-- the runs outside of which no bit is writable: 0214h, 0215h and 0219h-0226h are the tag's own
+abbrev pub openRuns : List Run
+openRuns = (0x0000, 0x0214) ∷ (0x0216, 3) ∷ (0x0227, 0x0059) ∷ []
+
+blend-shut : (old new : ℕ) → old < 256 → blend 0 old new ≡ old
+unfolding blend
+blend-shut old new h = rw (and-mask old 8, and-zero-r new, or-zero-r (old % 256)) (mod-eq-of-lt h)
+
+-- any Copy leaves them
+pub keeps-shut : (image pad : List ℕ) (a : ℕ) → length pad ≡ 32 → Bytes image → Keeps openRuns image (storedPage image pad a)
+unfolding storedByte writable
+keeps-shut image pad a whole bytes =
+    record {
+      lengths = keeps-storedPage image pad a whole .lengths;
+      bytes = λ k t. storedPage-cases (λ b. b ≡ getD image k 0) image pad a k whole refl (λ from to. stays k t (getD pad (k % 32) 0));
+    }
+  where
+    own : (k : ℕ) → T (free openRuns k 1) → (0x0214 ≤ k) × ((0x0280 ≤ k) ⊎ (k + 1 ≤ 0x0227))
+    own k t =
+        let rest = and-r (apart 0x0000 0x0214 k 1) (free ((0x0216, 3) ∷ (0x0227, 0x0059) ∷ []) k 1) t in
+        let last = and-r (apart 0x0216 3 k 1) (apart 0x0227 0x0059 k 1 && true) rest in (
+          ⊎-elim (λ l. l) (λ l. absurd (omega arith)) (apart-cases 0x0000 0x0214 k 1 (and-l (apart 0x0000 0x0214 k 1) _ t)),
+          apart-cases 0x0227 0x0059 k 1 (and-l (apart 0x0227 0x0059 k 1) true last),
+        )
+
+    stays : (k : ℕ) → T (free openRuns k 1) → (new : ℕ) → storedByte (regionAt k) (getD image k 0) new ≡ getD image k 0
+    stays k t new =
+        let from = own k t .0 in
+        ⊎-elim (λ past. stays-high k (getD image k 0) new past)
+        (λ to.
+        let o = k - 0x0200 in
+        let back : 0x0200 + (k - 0x0200) ≡ k = omega arith in
+        let test = each-at 64 (λ i. not (free openRuns (0x0200 + i) 1) || eqb (getD writable i 0) 0) tt o (omega arith) in
+        let none : getD writable (k - 0x0200) 0 ≡ 0 =
+        ⊎-elim (λ n. absurd (T-not (free openRuns k 1) (rw back at n) t)) (eqb→eq _ _)
+        (or-cases (not (free openRuns (0x0200 + o) 1)) (eqb (getD writable o 0) 0) test) in
+        rw (region-registers k (omega arith) (omega arith), none) (blend-shut (getD image k 0) new (bytes k)))
+        (own k t .1)
 
 pub bytes-storedPage : (image pad : List ℕ) (a : ℕ) → Bytes image → Bytes pad → Bytes (storedPage image pad a)
 unfolding storedPage

@@ -1,81 +1,44 @@
 -- What Read Memory sends of what Copy stored. Assumes nothing.
 use mathlib.Core.Path.{_≡_, _∙_}
-use mathlib.Core.Bool.{true}
 use mathlib.Core.List.{List}
-use mathlib.Core.Logic.{_≢_, _⊎_, inl, inr, ⊎-elim, dite}
-use Prim.Native.Nat.{ℕ, _+_, _-_, _%_, _≤_, _<_}
-use native.Mathlib.Decide.{decLt}
+use mathlib.Core.Logic.{_≢_, _⊎_, ⊎-elim}
+use Prim.Native.Nat.{ℕ, _+_, _-_, _≤_, _<_}
 use native.Mathlib.Omega.{arith}
+use borrow.Author.Tests.{ne-eqb}
 use lib.Bits.{bitAnd, bitOr}
-use lib.Ieee.Fits.{and-i}
+use lib.Dec.{T}
 use lib.ListN.{length, getD}
-use lib.Seq.{getD-set-same}
-use Rattle.image.specs.Fields.{apart}
-use Rattle.image.specs.Fields.Laws.{apart-of}
+use Rattle.image.specs.Keeps.{Run, free, Keeps}
 use Rattle.image.specs.Map.{regionAt, indexOf}
-use Rattle.image.specs.Map.Laws.{index-low, index-high}
+use Rattle.image.specs.Map.Laws.{region-user, region-registers, region-calibration}
 use Rattle.image.specs.Sent.{sentByte, sentAt}
-use Rattle.image.specs.Sent.Laws.{sent-same, sent-low, sent-user, sent-calibration, sent-register}
-use Rattle.image.specs.Stored.{blend, storedByte, storedAt, storedPage}
-use Rattle.image.specs.Stored.Laws.{stored-user, stored-calibration, stored-register, stored-other, stored-high}
-use Rattle.image.specs.Stored.Laws.{keeps-storedPage, storedPage-at, storedPage-high}
+use Rattle.image.specs.Sent.Laws.{sent-same, sent-low}
+use Rattle.image.specs.Stored.{blend, storedByte, storedRun}
+use Rattle.image.specs.Stored.Laws.{storedRun-at}
 use Rattle.image.specs.Tables.{writable, alwaysOne, named}
 
--- ---- one byte
+-- each byte of a run comes back as its region sends what its region stored
+pub sent-storedRun : (image : List ℕ) (code a : ℕ) (bs : List ℕ) (i : ℕ) → i < length bs → a + i < 0x0280 → a + i < length image
+    → sentAt (storedRun image a bs) code (a + i)
+    ≡ sentByte code (regionAt (a + i)) (storedByte (regionAt (a + i)) (getD image (a + i) 0) (getD bs i 0))
+sent-storedRun image code a bs i h low inside =
+    sent-low (storedRun image a bs) code (a + i) low ∙ rw (storedRun-at image a bs i h inside)
 
 -- user memory and calibration give the byte back
-pub sent-stored-user : (image : List ℕ) (code a b : ℕ) → a < 0x0200 → a < length image → sentAt (storedAt image a b) code a ≡ b
-sent-stored-user image code a b h inside =
-    sent-user (storedAt image a b) code a h ∙ rw (stored-user image a b h) (getD-set-same image a b 0 inside)
-
-pub sent-stored-calibration : (image : List ℕ) (code a b : ℕ) → 0x0240 ≤ a → a < 0x0280 → a < length image
-    → sentAt (storedAt image a b) code a ≡ b
-sent-stored-calibration image code a b h k inside =
-    sent-calibration (storedAt image a b) code a h k ∙ rw (stored-calibration image a b h k) (getD-set-same image a b 0 inside)
+pub sent-plain : (code k old new : ℕ) → (k < 0x0200) ⊎ ((0x0240 ≤ k) × (k < 0x0280))
+    → sentByte code (regionAt k) (storedByte (regionAt k) old new) ≡ new
+unfolding sentByte storedByte
+sent-plain code k old new =
+    ⊎-elim (λ user. rw (region-user k user)) (λ calibration. rw (region-calibration k (calibration .0) (calibration .1)))
 
 -- a register gives what the three tables let through
-pub sent-stored-register : (image : List ℕ) (code a b : ℕ) → 0x0200 ≤ a → a < 0x0240 → a ≢ 0x0226 → a < length image
-    → sentAt (storedAt image a b) code a
-    ≡ bitOr
-    (bitAnd (blend (getD writable (a - 0x0200) 0) (getD image a 0) b) (getD named (a - 0x0200) 0))
-    (getD alwaysOne (a - 0x0200) 0)
-sent-stored-register image code a b h k ne inside =
-    sent-register (storedAt image a b) code a h k ne
-    ∙ rw (stored-register image a b h k, getD-set-same image a (blend (getD writable (a - 0x0200) 0) (getD image a 0) b) 0 inside)
+pub sent-tables : (code k old new : ℕ) → 0x0200 ≤ k → k < 0x0240 → k ≢ 0x0226
+    → sentByte code (regionAt k) (storedByte (regionAt k) old new)
+    ≡ bitOr (bitAnd (blend (getD writable (k - 0x0200) 0) old new) (getD named (k - 0x0200) 0)) (getD alwaysOne (k - 0x0200) 0)
+unfolding sentByte storedByte
+sent-tables code k old new lo hi ne = rw (region-registers k lo hi, ne-eqb (k - 0x0200) 0x26 (λ e. ne (omega arith)))
 
--- every other address sends what it sent
-pub sent-stored-other : (image : List ℕ) (code a b a' : ℕ) → a' ≢ a → sentAt (storedAt image a b) code a' ≡ sentAt image code a'
-sent-stored-other image code a b a' ne =
-    dite (decLt a 0x0280)
-    (λ low. sent-same (storedAt image a b) image code a' (stored-other image a b (indexOf (regionAt a')) (elsewhere low)))
-    (λ high. rw (stored-high image a b (omega arith)))
-  where
-    elsewhere : a < 0x0280 → indexOf (regionAt a') ≢ a
-    elsewhere low e =
-        dite (decLt a' 0x0280) (λ l. omega (arith, index-low a' l, ne)) (λ h. omega (arith, index-high a' (omega arith)))
-
--- ---- a page
-
--- a byte of the rest of the page is sent as its region sends what its region stored
-pub sent-storedPage : (image pad : List ℕ) (code a k : ℕ) → length pad ≡ 32 → a ≤ k → k < a + (32 - a % 32) → k < 0x0280 → k < length image
-    → sentAt (storedPage image pad a) code k
-    ≡ sentByte code (regionAt k) (storedByte (regionAt k) (getD image k 0) (getD pad (k % 32) 0))
-sent-storedPage image pad code a k whole lo hi low inside =
-    sent-low (storedPage image pad a) code k low ∙ rw (storedPage-at image pad a k whole lo hi inside)
-
--- every other address sends what it sent
-pub sent-storedPage-other : (image pad : List ℕ) (code a k : ℕ) → length pad ≡ 32 → (a + (32 - a % 32) ≤ k) ⊎ (k < a)
-    → sentAt (storedPage image pad a) code k ≡ sentAt image code k
-sent-storedPage-other image pad code a k whole out =
-    dite (decLt a 0x0280)
-    (λ low.
-    sent-same (storedPage image pad a) image code k
-    (keeps-storedPage image pad a whole .bytes (indexOf (regionAt k))
-    (and-i (apart a (32 - a % 32) (indexOf (regionAt k)) 1) true (apart-of a (32 - a % 32) (indexOf (regionAt k)) 1 (outside low)) tt)))
-    (λ high. rw (storedPage-high image pad a (omega arith)))
-  where
-    outside : a < 0x0280 → (a + (32 - a % 32) ≤ indexOf (regionAt k)) ⊎ (indexOf (regionAt k) + 1 ≤ a)
-    outside low =
-        dite (decLt k 0x0280)
-        (λ l. ⊎-elim (λ o. inl (omega (arith, index-low k l))) (λ o. inr (omega (arith, index-low k l))) out)
-        (λ h. inl (omega (arith, index-high k (omega arith))))
+-- every address whose byte is kept sends what it sent
+pub sent-kept : {runs : List Run} {before after : List ℕ} (code a : ℕ) → Keeps runs before after → T (free runs (indexOf (regionAt a)) 1)
+    → sentAt after code a ≡ sentAt before code a
+sent-kept {before = before} {after = after} code a kept t = sent-same after before code a (kept .bytes (indexOf (regionAt a)) t)

@@ -1,14 +1,15 @@
 -- One slot by the stage it finds: where it is not the last of its byte or password field, and where it is. Assumes nothing.
 use mathlib.Core.Path.{_≡_, refl, ap, _∙_}
-use mathlib.Core.Bool.{Bool, true, false, _&&_, and-true}
+use mathlib.Core.Bool.{Bool, true, _&&_, and-true}
 use Prim.Native.Nat.{ℕ, _+_, _<_, _≤_}
 use borrow.Author.Tests.{lt-ltb, le-ltb, eq-eqb, ne-eqb}
 use native.Mathlib.Omega.{arith}
 use lib.Dec.{eqb}
-use Rattle.bits.specs.Choose.{if_then_else_}
 use Rattle.bits.specs.Bits.{bitOf, shiftIn}
+use Rattle.bits.specs.Choose.{choice}
 use Rattle.memory.specs.declared.Addressed.{Addressed}
 use Rattle.memory.specs.declared.Bus.{Bus}
+use Rattle.memory.specs.declared.Control.{Control}
 use Rattle.memory.specs.declared.Deed.{Deed}
 use Rattle.memory.specs.declared.Guarded.{Guarded}
 use Rattle.memory.specs.declared.Hearing.{Hearing}
@@ -19,20 +20,28 @@ use Rattle.memory.specs.declared.Question.{Question}
 use Rattle.memory.specs.declared.Sending.{Sending}
 use Rattle.memory.specs.declared.Stage.{Stage}
 use Rattle.memory.specs.Bus.{passing, gathering, listens}
-use Rattle.memory.specs.Hear.{underWay, addressHeard, stored, confirmed, heardWhole, heardBit}
-use Rattle.memory.specs.Field.{asHeld, copies, judged, gatheredBit, fieldQuestion, fieldAsks}
+use Rattle.memory.specs.Hear.{underWay, addressHeard, stored, confirmed, heardWhole, heardBit, commandStage}
+use Rattle.memory.specs.Field.{asHeld, copies, judged, gatheredBit, fieldQuestion, fieldAsks, guarded}
 use Rattle.memory.specs.Send.{firstByte, afterMemory, afterPage, afterCrc, sentWhole, outgoing, sentBit, sendAsks}
 use Rattle.memory.specs.Memory.{asks, stageAsks, stageSlot, onLine, slotOf}
 
--- ---- what holds of both values holds of a choice between them, and of two choices by one test
+-- ---- a command
 
-pub either : {A : Type 0} (P : A → Type 0) (test : Bool) {a b : A} → P a → P b → P (if test then a else b)
-either P true p q = p
-either P false p q = q
-
-pub both : {A B : Type 0} (P : A → B → Type 0) (test : Bool) {a b : A} {c d : B} → P a c → P b d → P (if test then a else b) (if test then c else d)
-both P true p q = p
-both P false p q = q
+-- what holds of the stages that commands lead to holds of every command byte's
+pub command-cases : (P : Stage → Type 0) (byte : ℕ)
+    → P (Stage.Hears (Hearing.Low Addressed.Write)) → P (Stage.Sends Sending.PadLow) → P (Stage.Hears (Hearing.Low Addressed.Copy))
+    → P (Stage.Hears (Hearing.Low Addressed.Read))
+    → ((control : Control) → guarded control ≡ true → P (Stage.Gathers (Guarded.Controlling control)))
+    → P (Stage.Hears (Hearing.Confirm Control.Convert)) → P Stage.Over → P (commandStage byte)
+unfolding commandStage guarded
+command-cases P byte write pad copy read control convert over =
+    choice P (eqb byte 0x0F) write
+    (choice P (eqb byte 0xAA) pad
+    (choice P (eqb byte 0x99) copy
+    (choice P (eqb byte 0x69) read
+    (choice P (eqb byte 0x96) (control Control.Clear refl)
+    (choice P (eqb byte 0xCC) (control Control.Start refl)
+    (choice P (eqb byte 0x33) (control Control.Stop refl) (choice P (eqb byte 0x55) convert over)))))))
 
 -- ---- the stage
 
@@ -97,7 +106,7 @@ heard-last h held bus bit answer e last =
 pub judged-listens : (g : Guarded) (held : Held) (bus : Bus) (may : Bool) → judged g held bus may .line ≡ true
 unfolding judged
 judged-listens Guarded.Reading held bus may = refl
-judged-listens Guarded.Copying held bus may = either (λ (m : Moved). m .line ≡ true) (copies held bus may) refl refl
+judged-listens Guarded.Copying held bus may = choice (λ (m : Moved). m .line ≡ true) (copies held bus may) refl refl
 judged-listens (Guarded.Controlling control) held bus may = refl
 
 pub judged-gathered : (g : Guarded) (held : Held) (bus : Bus) (field at : ℕ) (may : Bool) → judged g held (gathering bus field at) may ≡ judged g held bus may

@@ -1,14 +1,15 @@
 -- Without a password that is let pass a tag asks for no byte of memory, and does nothing but Forced Conversions. Assumes nothing.
 use mathlib.Core.Path.{_≡_, refl, sym, ap, _∙_}
-use mathlib.Core.Bool.{Bool, true, false, _&&_, _||_, and-false, true≢false}
-use Prim.Native.Nat.{ℕ, _+_, _%_, _≤_}
-use borrow.Author.Tests.{ltb-false, eqb-true}
+use mathlib.Core.Bool.{Bool, true, false, _&&_, and-false}
+use Prim.Native.Nat.{ℕ, _+_, _%_}
 use lib.Dec.{eqb, ltb}
-use Rattle.bits.specs.Choose.{if_then_else_}
+use Rattle.bits.specs.Bits.Laws.{digit-same}
+use Rattle.bits.specs.Choose.{if_then_else_, choice, choices}
 use Rattle.bits.specs.Bits.{digit, shiftIn}
+use Rattle.bits.specs.Tests.{neither}
+use Rattle.memory.specs.Memory.Laws.{command-cases}
 use Rattle.memory.specs.declared.Addressed.{Addressed}
 use Rattle.memory.specs.declared.Bus.{Bus}
-use Rattle.memory.specs.declared.Control.{Control}
 use Rattle.memory.specs.declared.Deed.{Deed}
 use Rattle.memory.specs.declared.Guarded.{Guarded}
 use Rattle.memory.specs.declared.Hearing.{Hearing}
@@ -19,18 +20,13 @@ use Rattle.memory.specs.declared.Question.{Question}
 use Rattle.memory.specs.declared.Sending.{Sending}
 use Rattle.memory.specs.declared.Stage.{Stage}
 use Rattle.memory.specs.Bus.{gathering, listens}
-use Rattle.memory.specs.Hear.{commandStage, addressHeard, afterData, confirmed, deedOf, heardWhole, heardBit}
+use Rattle.memory.specs.Hear.{commandStage, addressHeard, afterData, confirmed, heardWhole, heardBit}
 use Rattle.memory.specs.Field.{guarded, afterReading, afterControlling, asHeld, toTheEnd, copies, judged, gatheredBit, fieldQuestion, fieldAsks}
 use Rattle.memory.specs.Send.{firstByte, afterPad, afterMemory, afterPage, afterCrc, sentWhole, outgoing, sentBit, alternating, sendAsks}
 use Rattle.memory.specs.Memory.{asks, stageAsks, stageSlot, onLine, slotOf}
-use Rattle.memory.specs.Memory.Laws.{either, both}
-use Rattle.memory.specs.Phases.{isPage, sendsMemory, reading, confirms, writing, opened, letsRead, letsWrite, lets, takes, isByte, hearingDeed, fieldDeed, deedAt, free}
+use Rattle.memory.specs.Phases.{isPage, sendsMemory, reading, confirms, writing, opened, letsRead, letsWrite, lets, takes, isByte}
 
 -- ---- which stages follow a whole byte or field
-
-pub neither : (a b : Bool) → (a || b) ≡ false → (a ≡ false) × (b ≡ false)
-neither true b e = (e, cc)
-neither false b e = (refl, e)
 
 -- a stage that no password led to
 abbrev Shut : Stage → Type 0
@@ -43,15 +39,8 @@ pub shut-writing : (k : Stage) → opened k ≡ false → writing k ≡ false
 shut-writing k h = neither (reading k) (writing k) h .1
 
 command-shut : (byte : ℕ) → Shut (commandStage byte)
-unfolding commandStage reading writing sendsMemory confirms guarded
-command-shut byte =
-    either Shut (eqb byte 0x0F) refl
-    (either Shut (eqb byte 0xAA) refl
-    (either Shut (eqb byte 0x99) refl
-    (either Shut (eqb byte 0x69) refl
-    (either Shut (eqb byte 0x96) refl
-    (either Shut (eqb byte 0xCC) refl
-    (either Shut (eqb byte 0x33) refl (either Shut (eqb byte 0x55) refl refl)))))))
+unfolding reading writing sendsMemory confirms guarded
+command-shut byte = command-cases Shut byte refl refl refl refl (λ control g. refl) refl refl
 
 heard-shut : (h : Hearing) (held : Held) (bus : Bus) (byte : ℕ) → Shut (heardWhole h held bus byte .bus .stage)
 unfolding heardWhole addressHeard afterData confirmed reading writing sendsMemory confirms isPage
@@ -60,7 +49,7 @@ heard-shut (Hearing.Low a) held bus byte = refl
 heard-shut (Hearing.High Addressed.Write) held bus byte = refl
 heard-shut (Hearing.High Addressed.Copy) held bus byte = refl
 heard-shut (Hearing.High Addressed.Read) held bus byte = refl
-heard-shut (Hearing.Data place) held bus byte = either Shut (ltb place 31) refl refl
+heard-shut (Hearing.Data place) held bus byte = choice Shut (ltb place 31) refl refl
 heard-shut Hearing.Status held bus byte = refl
 heard-shut (Hearing.Confirm control) held bus byte = refl
 
@@ -76,9 +65,9 @@ judged-reading : (g : Guarded) (held : Held) (bus : Bus) (field answer : ℕ) �
 unfolding letsRead judged afterReading afterControlling reading sendsMemory
 judged-reading Guarded.Reading held bus field answer h = simp (h, and-false)
 judged-reading Guarded.Copying held bus field answer h =
-    either (λ (m : Moved). reading (m .bus .stage) ≡ false) (copies held bus (eqb answer 1)) refl refl
+    choice (λ (m : Moved). reading (m .bus .stage) ≡ false) (copies held bus (eqb answer 1)) refl refl
 judged-reading (Guarded.Controlling control) held bus field answer h =
-    either (λ (k : Stage). reading k ≡ false) (eqb answer 1) refl refl
+    choice (λ (k : Stage). reading k ≡ false) (eqb answer 1) refl refl
 
 pub copies-not : (held : Held) (bus : Bus) → copies held bus false ≡ false
 unfolding copies
@@ -88,7 +77,7 @@ judged-writing : (g : Guarded) (held : Held) (bus : Bus) (field answer : ℕ) �
     letsWrite (fieldQuestion g bus field) answer ≡ false → writing (judged g held bus (eqb answer 1) .bus .stage) ≡ false
 unfolding letsWrite judged afterReading afterControlling writing confirms
 judged-writing Guarded.Reading held bus field answer h =
-    either (λ (k : Stage). writing k ≡ false) (ltb (bus .address) 0x3000 && eqb answer 1) refl refl
+    choice (λ (k : Stage). writing k ≡ false) (ltb (bus .address) 0x3000 && eqb answer 1) refl refl
 judged-writing Guarded.Copying held bus field answer h = simp (h, copies-not)
 judged-writing (Guarded.Controlling control) held bus field answer h = simp h
 
@@ -98,7 +87,7 @@ unfolding sentWhole afterPad afterCrc reading sendsMemory isPage
 sent-reading Sending.PadLow held bus byte h = refl
 sent-reading Sending.PadHigh held bus byte h = refl
 sent-reading Sending.PadStatus held bus byte h = refl
-sent-reading (Sending.PadData place) held bus byte h = either (λ (s : Sending). sendsMemory s ≡ false) (ltb place 31) refl refl
+sent-reading (Sending.PadData place) held bus byte h = choice (λ (s : Sending). sendsMemory s ≡ false) (ltb place 31) refl refl
 sent-reading Sending.Memory held bus byte h = cc
 sent-reading (Sending.CrcLow next) held bus byte h = h
 sent-reading (Sending.CrcHigh Next.Nothing) held bus byte h = refl
@@ -110,10 +99,10 @@ sent-writing Sending.PadLow held bus byte = refl
 sent-writing Sending.PadHigh held bus byte = refl
 sent-writing Sending.PadStatus held bus byte = refl
 sent-writing (Sending.PadData place) held bus byte = refl
-sent-writing Sending.Memory held bus byte = either (λ (b : Bus). writing (b .stage) ≡ false) (ltb (bus .address % 32) 31) refl refl
+sent-writing Sending.Memory held bus byte = choice (λ (b : Bus). writing (b .stage) ≡ false) (ltb (bus .address % 32) 31) refl refl
 sent-writing (Sending.CrcLow next) held bus byte = refl
 sent-writing (Sending.CrcHigh Next.Nothing) held bus byte = refl
-sent-writing (Sending.CrcHigh Next.Page) held bus byte = either (λ (b : Bus). writing (b .stage) ≡ false) (ltb (bus .address) 0x2FFF) refl refl
+sent-writing (Sending.CrcHigh Next.Page) held bus byte = choice (λ (b : Bus). writing (b .stage) ≡ false) (ltb (bus .address) 0x2FFF) refl refl
 
 -- ---- one slot
 
@@ -128,11 +117,11 @@ reading-after held bus bit answer h = at (bus .stage) h
   where
     at : (k : Stage) → reading k ≡ false → letsRead (stageAsks k bus bit) answer ≡ false → Unread (stageSlot k held bus bit answer)
     at Stage.Over k unread = h
-    at (Stage.Hears hearing) k unread = either Unread (ltb (bus .at) 7) h (heard-reading hearing held bus _)
+    at (Stage.Hears hearing) k unread = choice Unread (ltb (bus .at) 7) h (heard-reading hearing held bus _)
     at (Stage.Gathers g) k unread =
-        both (λ (q : Question) (m : Moved). letsRead q answer ≡ false → Unread m) (ltb (bus .at) 63) (λ e. h) (judged-reading g held bus _ answer) unread
-    at (Stage.Sends s) k unread = either (λ (b : Bus). reading (b .stage) ≡ false) (ltb (bus .at) 7) h (sent-reading s held bus _ k)
-    at Stage.Copied k unread = either Unread (eqb (bus .at) 0) h h
+        choices (λ (q : Question) (m : Moved). letsRead q answer ≡ false → Unread m) (ltb (bus .at) 63) (λ e. h) (judged-reading g held bus _ answer) unread
+    at (Stage.Sends s) k unread = choice (λ (b : Bus). reading (b .stage) ≡ false) (ltb (bus .at) 7) h (sent-reading s held bus _ k)
+    at Stage.Copied k unread = choice Unread (eqb (bus .at) 0) h h
 
 -- a Copy is done, and a Clear, Start or Stop waits for FFh, only after a field that may write
 abbrev Unwritten : Moved → Type 0
@@ -145,11 +134,11 @@ writing-after held bus bit answer h = at (bus .stage)
   where
     at : (k : Stage) → letsWrite (stageAsks k bus bit) answer ≡ false → Unwritten (stageSlot k held bus bit answer)
     at Stage.Over unwritten = h
-    at (Stage.Hears hearing) unwritten = either Unwritten (ltb (bus .at) 7) h (heard-writing hearing held bus _)
+    at (Stage.Hears hearing) unwritten = choice Unwritten (ltb (bus .at) 7) h (heard-writing hearing held bus _)
     at (Stage.Gathers g) unwritten =
-        both (λ (q : Question) (m : Moved). letsWrite q answer ≡ false → Unwritten m) (ltb (bus .at) 63) (λ e. h) (judged-writing g held bus _ answer) unwritten
-    at (Stage.Sends s) unwritten = either (λ (b : Bus). writing (b .stage) ≡ false) (ltb (bus .at) 7) h (sent-writing s held bus _)
-    at Stage.Copied unwritten = either Unwritten (eqb (bus .at) 0) h h
+        choices (λ (q : Question) (m : Moved). letsWrite q answer ≡ false → Unwritten m) (ltb (bus .at) 63) (λ e. h) (judged-writing g held bus _ answer) unwritten
+    at (Stage.Sends s) unwritten = choice (λ (b : Bus). writing (b .stage) ≡ false) (ltb (bus .at) 7) h (sent-writing s held bus _)
+    at Stage.Copied unwritten = choice Unwritten (eqb (bus .at) 0) h h
 
 -- a byte of memory is asked for only while Read Memory sends
 pub byte-asked : (bus : Bus) (bit : Bool) → reading (bus .stage) ≡ false → isByte (asks bus bit) ≡ false
@@ -173,172 +162,11 @@ byte-asked bus bit = at (bus .stage)
     at : (k : Stage) → reading k ≡ false → isByte (stageAsks k bus bit) ≡ false
     at Stage.Over h = refl
     at (Stage.Hears hearing) h = refl
-    at (Stage.Gathers g) h = either (λ (q : Question). isByte q ≡ false) (ltb (bus .at) 63) refl (asked g _)
+    at (Stage.Gathers g) h = choice (λ (q : Question). isByte q ≡ false) (ltb (bus .at) 63) refl (asked g _)
     at (Stage.Sends s) h = sent s h
     at Stage.Copied h = refl
 
--- ---- deeds
-
-abbrev Does : Moved → Deed → Type 0
-Does moved deed = moved .deed ≡ deed
-
-abbrev Idle : Moved → Type 0
-Idle moved = Does moved Deed.Nothing
-
-pub deed-is : (held : Held) (bus : Bus) (bit : Bool) (answer : ℕ) → slotOf held bus bit answer .deed ≡ deedAt (bus .stage) held bus bit answer
-unfolding slotOf onLine stageSlot heardBit heardWhole addressHeard confirmed gatheredBit judged sentBit alternating deedAt hearingDeed fieldDeed
-deed-is held bus bit answer = at (bus .stage)
-  where
-    at : (k : Stage) → stageSlot k held bus bit answer .deed ≡ deedAt k held bus bit answer
-    at Stage.Over = refl
-    at (Stage.Hears Hearing.Command) = either Idle (ltb (bus .at) 7) refl refl
-    at (Stage.Hears (Hearing.Low a)) = either Idle (ltb (bus .at) 7) refl refl
-    at (Stage.Hears (Hearing.High Addressed.Write)) = either Idle (ltb (bus .at) 7) refl refl
-    at (Stage.Hears (Hearing.High Addressed.Copy)) = either Idle (ltb (bus .at) 7) refl refl
-    at (Stage.Hears (Hearing.High Addressed.Read)) = either Idle (ltb (bus .at) 7) refl refl
-    at (Stage.Hears (Hearing.Data place)) = either Idle (ltb (bus .at) 7) refl refl
-    at (Stage.Hears Hearing.Status) = either Idle (ltb (bus .at) 7) refl refl
-    at (Stage.Hears (Hearing.Confirm control)) = both Does (ltb (bus .at) 7) refl refl
-    at (Stage.Gathers Guarded.Reading) = either Idle (ltb (bus .at) 63) refl refl
-    at (Stage.Gathers Guarded.Copying) = both Does (ltb (bus .at) 63) refl (both Does (copies held bus (eqb answer 1)) refl refl)
-    at (Stage.Gathers (Guarded.Controlling control)) = either Idle (ltb (bus .at) 63) refl refl
-    at (Stage.Sends s) = refl
-    at Stage.Copied = either Idle (eqb (bus .at) 0) refl refl
-
--- what holds of no deed at any stage, of a control command's at its last byte and of a Copy's at its password, holds of every slot's
-deed-cases : (P : Stage → Deed → Type 0) (held : Held) (bus : Bus) (bit : Bool) (answer : ℕ) →
-    ((k : Stage) → P k Deed.Nothing) →
-    ((control : Control) → P (Stage.Hears (Hearing.Confirm control)) (hearingDeed (Hearing.Confirm control) bus bit)) →
-    P (Stage.Gathers Guarded.Copying) (fieldDeed Guarded.Copying held bus (eqb answer 1)) →
-    P (bus .stage) (slotOf held bus bit answer .deed)
-unfolding deedAt hearingDeed fieldDeed
-deed-cases P held bus bit answer none control copy = rw (deed-is held bus bit answer) (at (bus .stage))
-  where
-    at : (k : Stage) → P k (deedAt k held bus bit answer)
-    at Stage.Over = none _
-    at (Stage.Hears Hearing.Command) = none _
-    at (Stage.Hears (Hearing.Low a)) = none _
-    at (Stage.Hears (Hearing.High a)) = none _
-    at (Stage.Hears (Hearing.Data place)) = none _
-    at (Stage.Hears Hearing.Status) = none _
-    at (Stage.Hears (Hearing.Confirm c)) = control c
-    at (Stage.Gathers Guarded.Reading) = none _
-    at (Stage.Gathers Guarded.Copying) = copy
-    at (Stage.Gathers (Guarded.Controlling c)) = none _
-    at (Stage.Sends s) = none _
-    at Stage.Copied = none _
-
--- without a field that may write nothing is done but a Forced Conversion
-pub free-deed : (held : Held) (bus : Bus) (bit : Bool) (answer : ℕ) →
-    writing (bus .stage) ≡ false → letsWrite (asks bus bit) answer ≡ false → free (slotOf held bus bit answer .deed) ≡ true
-unfolding asks stageAsks fieldAsks letsWrite hearingDeed fieldDeed free writing confirms guarded
-free-deed held bus bit answer =
-    deed-cases (λ k d. writing k ≡ false → letsWrite (stageAsks k bus bit) answer ≡ false → free d ≡ true) held bus bit answer
-    (λ k h unwritten. refl)
-    (λ control h unwritten. confirm control h)
-    (λ h unwritten. both (λ (q : Question) (d : Deed). letsWrite q answer ≡ false → free d ≡ true) (ltb (bus .at) 63) (λ e. refl) (λ e. simp (e, copies-not)) unwritten)
-  where
-    confirm : (control : Control) → guarded control ≡ false → free (hearingDeed (Hearing.Confirm control) bus bit) ≡ true
-    confirm Control.Clear h = cc
-    confirm Control.Start h = cc
-    confirm Control.Stop h = cc
-    confirm Control.Convert h =
-        either (λ (d : Deed). free d ≡ true) (ltb (bus .at) 7) refl
-        (either (λ (d : Deed). free d ≡ true) (eqb (shiftIn 8 (bus .byte) bit) 0xFF) refl refl)
-
--- which control command a deed is of, and whether it is of one; any will do for a deed that is of none
-controlOf : Deed → Control
-controlOf Deed.Clear = Control.Clear
-controlOf Deed.Start = Control.Start
-controlOf Deed.Stop = Control.Stop
-controlOf Deed.Convert = Control.Convert
-controlOf Deed.Nothing = Control.Convert
-controlOf Deed.Store = Control.Convert
-
-isControl : Deed → Bool
-isControl Deed.Clear = true
-isControl Deed.Start = true
-isControl Deed.Stop = true
-isControl Deed.Convert = true
-isControl Deed.Nothing = false
-isControl Deed.Store = false
-
-control-of : (control : Control) → (controlOf (deedOf control) ≡ control) × (isControl (deedOf control) ≡ true)
-unfolding controlOf isControl
-control-of Control.Clear = (refl, refl)
-control-of Control.Start = (refl, refl)
-control-of Control.Stop = (refl, refl)
-control-of Control.Convert = (refl, refl)
-
--- a control command is done only in the slot of the last bit of its FFh
-pub control-done : (held : Held) (bus : Bus) (bit : Bool) (answer : ℕ) (control : Control) → slotOf held bus bit answer .deed ≡ deedOf control →
-    (bus .stage ≡ Stage.Hears (Hearing.Confirm control)) × (7 ≤ bus .at) × (shiftIn 8 (bus .byte) bit ≡ 0xFF)
-unfolding hearingDeed fieldDeed isControl
-control-done held bus bit answer control =
-    deed-cases (λ k d. d ≡ deedOf control → (k ≡ Stage.Hears (Hearing.Confirm control)) × (7 ≤ bus .at) × (shiftIn 8 (bus .byte) bit ≡ 0xFF)) held bus bit answer
-    (λ k d. no refl d)
-    (λ c d. done c (ltb (bus .at) 7) (eqb (shiftIn 8 (bus .byte) bit) 0xFF) refl refl d)
-    (λ d. no (either (λ (x : Deed). isControl x ≡ false) (ltb (bus .at) 63) refl (either (λ (x : Deed). isControl x ≡ false) (copies held bus (eqb answer 1)) refl refl)) d)
-  where
-    no : {A : Type 0} {d : Deed} → isControl d ≡ false → d ≡ deedOf control → A
-    no e p = absurd (true≢false (sym (control-of control .1) ∙ sym (ap isControl p) ∙ e))
-
-    done :
-        (c : Control) (more last : Bool) →
-        ltb (bus .at) 7 ≡ more →
-        eqb (shiftIn 8 (bus .byte) bit) 0xFF ≡ last →
-        (if more then Deed.Nothing else if last then deedOf c else Deed.Nothing) ≡ deedOf control →
-        (Stage.Hears (Hearing.Confirm c) ≡ Stage.Hears (Hearing.Confirm control)) × (7 ≤ bus .at) × (shiftIn 8 (bus .byte) bit ≡ 0xFF)
-    done c true last p q d = no refl d
-    done c false false p q d = no refl d
-    done c false true p q d =
-        let same : c ≡ control = sym (control-of c .0) ∙ ap controlOf d ∙ control-of control .0 in
-        (ap (λ (k : Control). Stage.Hears (Hearing.Confirm k)) same, ltb-false _ _ p, eqb-true _ _ q)
-
-isStore : Deed → Bool
-isStore Deed.Store = true
-isStore Deed.Nothing = false
-isStore Deed.Clear = false
-isStore Deed.Start = false
-isStore Deed.Stop = false
-isStore Deed.Convert = false
-
--- bytes are stored only in the slot of the last bit of a Copy's password, and only if the Copy is done
-pub store-done : (held : Held) (bus : Bus) (bit : Bool) (answer : ℕ) → slotOf held bus bit answer .deed ≡ Deed.Store →
-    (bus .stage ≡ Stage.Gathers Guarded.Copying) × (63 ≤ bus .at) × (copies held bus (eqb answer 1) ≡ true)
-unfolding hearingDeed fieldDeed isStore
-store-done held bus bit answer =
-    deed-cases (λ k d. d ≡ Deed.Store → (k ≡ Stage.Gathers Guarded.Copying) × (63 ≤ bus .at) × (copies held bus (eqb answer 1) ≡ true)) held bus bit answer
-    (λ k d. no refl d)
-    (λ c d. no (either (λ (x : Deed). isStore x ≡ false) (ltb (bus .at) 7) refl (either (λ (x : Deed). isStore x ≡ false) (eqb (shiftIn 8 (bus .byte) bit) 0xFF) (control c) refl)) d)
-    (λ d. done (ltb (bus .at) 63) (copies held bus (eqb answer 1)) refl refl d)
-  where
-    no : {A : Type 0} {d : Deed} → isStore d ≡ false → d ≡ Deed.Store → A
-    no e p = absurd (true≢false (sym (ap isStore p) ∙ e))
-
-    control : (c : Control) → isStore (deedOf c) ≡ false
-    control Control.Clear = refl
-    control Control.Start = refl
-    control Control.Stop = refl
-    control Control.Convert = refl
-
-    done :
-        (more may : Bool) →
-        ltb (bus .at) 63 ≡ more →
-        copies held bus (eqb answer 1) ≡ may →
-        (if more then Deed.Nothing else if may then Deed.Store else Deed.Nothing) ≡ Deed.Store →
-        (Stage.Gathers Guarded.Copying ≡ Stage.Gathers Guarded.Copying) × (63 ≤ bus .at) × (copies held bus (eqb answer 1) ≡ true)
-    done true may p q d = no refl d
-    done false false p q d = no refl d
-    done false true p q d = (refl, ltb-false _ _ p, q)
-
 -- ---- the answer
-
-digit-same : (a b : Bool) → digit a ≡ digit b → a ≡ b
-digit-same true true e = refl
-digit-same true false e = cc
-digit-same false true e = cc
-digit-same false false e = refl
 
 -- a byte that goes out and is not the memory's
 own-byte : (s : Sending) (held : Held) (bus : Bus) (a b : ℕ) → takes (sendAsks s bus) a ≡ takes (sendAsks s bus) b → outgoing s held bus a ≡ outgoing s held bus b

@@ -1,15 +1,15 @@
 -- What is in range stays in range, from a new tag on. Assumes nothing.
 use mathlib.Core.Path.{_≡_, refl, sym, subst}
-use mathlib.Core.Bool.{Bool, true, false, _&&_, and-eq-true-iff}
+use mathlib.Core.Bool.{Bool, true, _&&_, and-eq-true-iff}
 use Prim.Native.Nat.{ℕ, _+_, _*_, _%_, _<_, _≤_}
 use native.Mathlib.Omega.{arith}
 use borrow.Author.Tests.{lt-ltb, le-leb, eq-eqb, ltb-true, ltb-false, leb-true}
 use lib.Dec.{eqb, ltb}
-use Rattle.bits.specs.Choose.{if_then_else_}
+use Rattle.bits.specs.Choose.{choice, either}
 use Rattle.bits.specs.Bits.{shiftIn}
+use Rattle.memory.specs.Memory.Laws.{command-cases}
 use Rattle.memory.specs.declared.Addressed.{Addressed}
 use Rattle.memory.specs.declared.Bus.{Bus}
-use Rattle.memory.specs.declared.Deed.{Deed}
 use Rattle.memory.specs.declared.Guarded.{Guarded}
 use Rattle.memory.specs.declared.Hearing.{Hearing}
 use Rattle.memory.specs.declared.Held.{Held}
@@ -17,26 +17,21 @@ use Rattle.memory.specs.declared.Moved.{Moved}
 use Rattle.memory.specs.declared.Next.{Next}
 use Rattle.memory.specs.declared.Sending.{Sending}
 use Rattle.memory.specs.declared.Stage.{Stage}
-use Rattle.memory.specs.Bus.{clearBus, goTo, passing, gathering, adding, freshCrc, addressing, listens}
+use Rattle.memory.specs.Bus.{clearBus, goTo, passing, adding, freshCrc}
 use Rattle.memory.specs.Hear.{commandStage, addressHeard, loaded, stored, afterData, underWay, confirmed, heardWhole, heardBit}
-use Rattle.memory.specs.Field.{guarded, afterReading, afterControlling, copies, judged, gatheredBit}
+use Rattle.memory.specs.Field.{afterReading, afterControlling, copies, judged, gatheredBit}
 use Rattle.memory.specs.Send.{afterPad, afterMemory, afterPage, afterCrc, sentWhole, outgoing, sentBit, alternating}
 use Rattle.memory.specs.Memory.{newHeld, stageSlot, onLine, slotOf}
-use Rattle.memory.specs.Memory.Laws.{either}
 use Rattle.memory.specs.Range.{fromOffset, hearingInRange, guardedInRange, crcInRange, sendingInRange, stageInRange, memoryInRange}
 
 and-intro : {a b : Bool} → a ≡ true → b ≡ true → (a && b) ≡ true
 and-intro {a} {b} p q = and-eq-true-iff a b .1 (p, q)
 
-and-right : (a : Bool) {b : Bool} → (a && b) ≡ true → b ≡ true
-and-right true e = e
-and-right false e = cc
-
 -- held registers and a bus state in range, and what a slot leaves
-abbrev Ranged : Held → Bus → Type 0
+abbrev pub Ranged : Held → Bus → Type 0
 Ranged held bus = (fromOffset held (held .ending) ≡ true) × (stageInRange (bus .stage) held bus ≡ true)
 
-ranged : (held : Held) (bus : Bus) → memoryInRange held bus ≡ true → Ranged held bus
+pub ranged : (held : Held) (bus : Bus) → memoryInRange held bus ≡ true → Ranged held bus
 unfolding memoryInRange
 ranged held bus h = and-eq-true-iff _ _ .0 h
 
@@ -72,16 +67,8 @@ next-ranged held place h more =
 -- ---- whole bytes and fields
 
 command-ranged : (held : Held) (bus : Bus) (byte : ℕ) → Entered held bus (commandStage byte)
-unfolding commandStage stageInRange hearingInRange guardedInRange guarded sendingInRange
-command-ranged held bus byte =
-    let P : Stage → Type 0 = Entered held bus in
-    either P (eqb byte 0x0F) refl
-    (either P (eqb byte 0xAA) refl
-    (either P (eqb byte 0x99) refl
-    (either P (eqb byte 0x69) refl
-    (either P (eqb byte 0x96) refl
-    (either P (eqb byte 0xCC) refl
-    (either P (eqb byte 0x33) refl (either P (eqb byte 0x55) refl refl)))))))
+unfolding stageInRange hearingInRange guardedInRange sendingInRange
+command-ranged held bus byte = command-cases (Entered held bus) byte refl refl refl refl (λ control g. g) refl refl
 
 heard-ranged : (h : Hearing) (held : Held) (bus : Bus) (byte : ℕ) → fromOffset held (held .ending) ≡ true → hearingInRange h held ≡ true → After (heardWhole h held bus byte)
 unfolding heardWhole addressHeard stored afterData confirmed fromOffset stageInRange hearingInRange guardedInRange sendingInRange crcInRange
@@ -91,68 +78,47 @@ heard-ranged (Hearing.High Addressed.Write) held bus byte e h =
     let now = loaded held (bus .address % 256 + 256 * byte) in (offset-ranged now, offset-ranged now)
 heard-ranged (Hearing.High Addressed.Copy) held bus byte e h = (e, refl)
 heard-ranged (Hearing.High Addressed.Read) held bus byte e h = (e, refl)
-heard-ranged (Hearing.Data place) held bus byte e h = (h, by (ltb place 31) refl)
-  where
-    by :
-        (more : Bool) →
-        ltb place 31 ≡ more →
-        Entered (stored held place byte) (adding bus byte) (if more then Stage.Hears (Hearing.Data (place + 1)) else Stage.Sends (Sending.CrcLow Next.Nothing))
-    by true more = next-ranged (stored held place byte) place h (ltb-true place 31 more)
-    by false more = refl
+heard-ranged (Hearing.Data place) held bus byte e h =
+    let now = stored held place byte in
+    (h, either (Entered now (adding bus byte)) (ltb place 31) (λ more. next-ranged now place h (ltb-true place 31 more)) (λ last. refl))
 heard-ranged Hearing.Status held bus byte e h = (e, refl)
 heard-ranged (Hearing.Confirm control) held bus byte e h = (e, refl)
 
 judged-ranged : (g : Guarded) (held : Held) (bus : Bus) (may : Bool) → fromOffset held (held .ending) ≡ true → After (judged g held bus may)
 unfolding judged afterReading afterControlling fromOffset stageInRange hearingInRange sendingInRange
-judged-ranged Guarded.Reading held bus may e = (e, by (ltb (bus .address) 0x3000) may refl)
-  where
-    by : (low may : Bool) → ltb (bus .address) 0x3000 ≡ low → Entered held bus (if low && may then Stage.Sends Sending.Memory else Stage.Over)
-    by true true low = low
-    by true false low = refl
-    by false may low = refl
+judged-ranged Guarded.Reading held bus may e =
+    let low = ltb (bus .address) 0x3000 in (e, either (Entered held bus) (low && may) (λ both. and-eq-true-iff low may .0 both .0) (λ shut. refl))
 judged-ranged Guarded.Copying held bus may e =
-    either After (copies held bus may) (e, refl) (e, refl)
-judged-ranged (Guarded.Controlling control) held bus may e = (e, either (Entered held bus) may refl refl)
+    choice After (copies held bus may) (e, refl) (e, refl)
+judged-ranged (Guarded.Controlling control) held bus may e = (e, choice (Entered held bus) may refl refl)
 
 -- Read Memory's next byte, and the next page
 memory-ranged : (held : Held) (bus : Bus) → ltb (bus .address) 0x3000 ≡ true → stageInRange (afterMemory bus .stage) held (afterMemory bus) ≡ true
 unfolding afterMemory stageInRange sendingInRange crcInRange
-memory-ranged held bus h = by (ltb (bus .address % 32) 31) refl
-  where
-    low : bus .address < 0x3000
-    low = ltb-true _ _ h
-
-    by :
-        (more : Bool) →
-        ltb (bus .address % 32) 31 ≡ more →
-        OnBus held (if more then goTo (addressing bus (bus .address + 1)) (Stage.Sends Sending.Memory) else goTo bus (Stage.Sends (Sending.CrcLow Next.Page)))
-    by true more = let inside = ltb-true (bus .address % 32) 31 more in lt-ltb (bus .address + 1) 0x3000 (omega (arith, low))
-    by false more =
-        let end = ltb-false (bus .address % 32) 31 more in
-        let last : bus .address % 32 ≡ 31 = omega arith in
-        and-intro h (eq-eqb _ _ last)
+memory-ranged held bus h =
+    let low : bus .address < 0x3000 = ltb-true _ _ h in
+    either (OnBus held) (ltb (bus .address % 32) 31)
+    (λ more. lt-ltb (bus .address + 1) 0x3000 (omega (arith, ltb-true (bus .address % 32) 31 more)))
+    (λ end.
+    let last : bus .address % 32 ≡ 31 = omega (arith, ltb-false (bus .address % 32) 31 end) in
+    and-intro h (eq-eqb _ _ last))
 
 sent-ranged : (s : Sending) (held : Held) (bus : Bus) (byte : ℕ) → sendingInRange s held bus ≡ true → OnBus held (sentWhole s held bus byte)
 unfolding sentWhole afterPad afterCrc afterPage stageInRange sendingInRange crcInRange
 sent-ranged Sending.PadLow held bus byte h = refl
 sent-ranged Sending.PadHigh held bus byte h = refl
 sent-ranged Sending.PadStatus held bus byte h = offset-ranged held
-sent-ranged (Sending.PadData place) held bus byte h = by (ltb place 31) refl
-  where
-    by :
-        (more : Bool) →
-        ltb place 31 ≡ more →
-        Entered held (adding bus byte) (Stage.Sends (if more then Sending.PadData (place + 1) else Sending.CrcLow Next.Nothing))
-    by true more = next-ranged held place h (ltb-true place 31 more)
-    by false more = refl
+sent-ranged (Sending.PadData place) held bus byte h =
+    either (λ (s : Sending). Entered held (adding bus byte) (Stage.Sends s)) (ltb place 31)
+    (λ more. next-ranged held place h (ltb-true place 31 more))
+    (λ last. refl)
 sent-ranged Sending.Memory held bus byte h = memory-ranged held (adding bus byte) h
 sent-ranged (Sending.CrcLow next) held bus byte h = h
 sent-ranged (Sending.CrcHigh Next.Nothing) held bus byte h = refl
-sent-ranged (Sending.CrcHigh Next.Page) held bus byte h = by (ltb (bus .address) 0x2FFF) refl
-  where
-    by : (more : Bool) → ltb (bus .address) 0x2FFF ≡ more → OnBus held (if more then goTo (addressing (freshCrc bus) (bus .address + 1)) (Stage.Sends Sending.Memory) else goTo bus Stage.Over)
-    by true more = let low = ltb-true (bus .address) 0x2FFF more in lt-ltb (bus .address + 1) 0x3000 (omega arith)
-    by false more = refl
+sent-ranged (Sending.CrcHigh Next.Page) held bus byte h =
+    either (OnBus held) (ltb (bus .address) 0x2FFF)
+    (λ more. lt-ltb (bus .address + 1) 0x3000 (omega (arith, ltb-true (bus .address) 0x2FFF more)))
+    (λ last. refl)
 
 -- ---- one slot
 
@@ -175,32 +141,20 @@ begun-ranged (Hearing.Confirm control) held e h = (e, h)
 
 heard-bit-ranged : (h : Hearing) (held : Held) (bus : Bus) (bit : Bool) → bus .stage ≡ Stage.Hears h → Ranged held bus → After (heardBit h held bus bit)
 unfolding heardBit stageInRange
-heard-bit-ranged h held bus bit e given = by (ltb (bus .at) 7) refl
-  where
-    hearing : hearingInRange h held ≡ true
-    hearing = and-right (ltb (bus .at) 8) (at-stage held bus e given)
-
-    by :
-        (more : Bool) →
-        ltb (bus .at) 7 ≡ more →
-        After (if more then listens (underWay h held) (passing bus (shiftIn 8 (bus .byte) bit) (bus .at + 1)) Deed.Nothing else heardWhole h held bus (shiftIn 8 (bus .byte) bit))
-    by true more =
-        let begun = begun-ranged h held (given .0) hearing in
-        (begun .0, on-bus _ _ e (and-intro (lt-ltb (bus .at + 1) 8 (omega (arith, ltb-true (bus .at) 7 more))) (begun .1)))
-    by false more = heard-ranged h held bus (shiftIn 8 (bus .byte) bit) (given .0) hearing
+heard-bit-ranged h held bus bit e given =
+    let hearing = and-eq-true-iff (ltb (bus .at) 8) _ .0 (at-stage held bus e given) .1 in
+    let begun = begun-ranged h held (given .0) hearing in
+    either After (ltb (bus .at) 7)
+    (λ more. (begun .0, on-bus _ _ e (and-intro (lt-ltb (bus .at + 1) 8 (omega (arith, ltb-true (bus .at) 7 more))) (begun .1))))
+    (λ last. heard-ranged h held bus (shiftIn 8 (bus .byte) bit) (given .0) hearing)
 
 gathered-ranged : (g : Guarded) (held : Held) (bus : Bus) (bit may : Bool) → bus .stage ≡ Stage.Gathers g → Ranged held bus → After (gatheredBit g held bus bit may)
 unfolding gatheredBit stageInRange
-gathered-ranged g held bus bit may e given = by (ltb (bus .at) 63) refl
-  where
-    by :
-        (more : Bool) →
-        ltb (bus .at) 63 ≡ more →
-        After (if more then listens held (gathering bus (shiftIn 64 (bus .field) bit) (bus .at + 1)) Deed.Nothing else judged g held bus may)
-    by true more =
-        let control = and-right (ltb (bus .at) 64) (at-stage held bus e given) in
-        (given .0, on-bus _ _ e (and-intro (lt-ltb (bus .at + 1) 64 (omega (arith, ltb-true (bus .at) 63 more))) control))
-    by false more = judged-ranged g held bus may (given .0)
+gathered-ranged g held bus bit may e given =
+    let control = and-eq-true-iff (ltb (bus .at) 64) _ .0 (at-stage held bus e given) .1 in
+    either After (ltb (bus .at) 63)
+    (λ more. (given .0, on-bus _ _ e (and-intro (lt-ltb (bus .at + 1) 64 (omega (arith, ltb-true (bus .at) 63 more))) control)))
+    (λ last. judged-ranged g held bus may (given .0))
 
 -- a bit more of a byte that goes out changes none of what its range is about
 passing-ranged : (s : Sending) (held : Held) (bus : Bus) (byte at : ℕ) → sendingInRange s held bus ≡ true → sendingInRange s held (passing bus byte at) ≡ true
@@ -215,17 +169,13 @@ passing-ranged (Sending.CrcHigh next) held bus byte at h = h
 
 sent-bit-ranged : (s : Sending) (held : Held) (bus : Bus) (memory : ℕ) → bus .stage ≡ Stage.Sends s → Ranged held bus → After (sentBit s held bus memory)
 unfolding sentBit stageInRange
-sent-bit-ranged s held bus memory e given = (given .0, by (ltb (bus .at) 7) refl)
-  where
-    sending : sendingInRange s held bus ≡ true
-    sending = and-right (ltb (bus .at) 8) (at-stage held bus e given)
-
-    by :
-        (more : Bool) →
-        ltb (bus .at) 7 ≡ more →
-        OnBus held (if more then passing bus (outgoing s held bus memory) (bus .at + 1) else sentWhole s held bus (outgoing s held bus memory))
-    by true more = on-bus _ _ e (and-intro (lt-ltb (bus .at + 1) 8 (omega (arith, ltb-true (bus .at) 7 more))) (passing-ranged s held bus _ _ sending))
-    by false more = sent-ranged s held bus (outgoing s held bus memory) sending
+sent-bit-ranged s held bus memory e given =
+    let sending = and-eq-true-iff (ltb (bus .at) 8) _ .0 (at-stage held bus e given) .1 in (
+      given .0,
+      either (OnBus held) (ltb (bus .at) 7)
+          (λ more. on-bus _ _ e (and-intro (lt-ltb (bus .at + 1) 8 (omega (arith, ltb-true (bus .at) 7 more))) (passing-ranged s held bus _ _ sending)))
+          (λ last. sent-ranged s held bus (outgoing s held bus memory) sending),
+    )
 
 pub slot-in-range : (held : Held) (bus : Bus) (bit : Bool) (answer : ℕ) → memoryInRange held bus ≡ true →
     memoryInRange (slotOf held bus bit answer .held) (slotOf held bus bit answer .bus) ≡ true
@@ -240,7 +190,7 @@ slot-in-range held bus bit answer h = in-range _ _ (at (bus .stage) refl)
     at (Stage.Hears hearing) e = heard-bit-ranged hearing held bus bit e given
     at (Stage.Gathers g) e = gathered-ranged g held bus bit (eqb answer 1) e given
     at (Stage.Sends s) e = sent-bit-ranged s held bus answer e given
-    at Stage.Copied e = either After (eqb (bus .at) 0) (given .0, on-bus _ _ e refl) (given .0, on-bus _ _ e refl)
+    at Stage.Copied e = choice After (eqb (bus .at) 0) (given .0, on-bus _ _ e refl) (given .0, on-bus _ _ e refl)
 
 -- ---- a new tag, and a reset
 

@@ -3,13 +3,12 @@ use mathlib.Core.Path.{_≡_, refl, ap, _∙_}
 use mathlib.Core.Bool.{Bool, _&&_}
 use mathlib.Core.List.{List, [], _∷_, _++_, zipWith}
 use Prim.Native.Nat.{ℕ, suc, _+_, _/_, _^_, _<_}
-use native.Mathlib.Nat.{div-one, div-div-eq-div-mul, pow-succ', mul-comm}
-use native.Mathlib.Numerals.{add-one}
+use native.Mathlib.Nat.{div-one}
 use native.Mathlib.Omega.{arith}
 use lib.Dec.{eqb}
 use lib.ListN.{length, replicate}
-use Rattle.bits.specs.Bits.{bitOf, bitsOf, shiftIn, shiftAll}
-use Rattle.bits.specs.Bits.Laws.{length-bits, heard-whole}
+use Rattle.bits.specs.Bits.{bitOf, bitsOf, shiftIn, shiftAll, released}
+use Rattle.bits.specs.Bits.Laws.{length-bits, heard-whole, bits-from}
 use Rattle.memory.specs.declared.Bus.{Bus}
 use Rattle.memory.specs.declared.Deed.{Deed}
 use Rattle.memory.specs.declared.Guarded.{Guarded}
@@ -25,7 +24,7 @@ use Rattle.memory.specs.Field.{judged, fieldQuestion}
 use Rattle.memory.specs.Send.{sentWhole, firstByte, sendAsks}
 use Rattle.memory.specs.Memory.{asks, stageAsks, slotOf}
 use Rattle.memory.specs.Memory.Laws.{asks-at, heardAs, whole-begun, heard-more, heard-last, judged-gathered, question-gathered, field-asks-more, field-asks-last, gathered-more, gathered-last, outgoing-kept, outgoing-first, sending-asks-nothing, sent-begun, sent-more, sent-last}
-use Rattle.memory.specs.Runs.{Ran, run, follows, released}
+use Rattle.memory.specs.Runs.{Ran, run, follows}
 
 -- ---- joining runs
 
@@ -108,11 +107,6 @@ run-gathered image g held bus field e n under fits =
     ap (λ (heard : ℕ). fieldRun image g held bus 63 heard (bitsOf 64 field)) (heard-whole 64 under fits)
 
 -- ---- a byte that goes out
-
--- the bits of a number from bit `at` on: that bit, and those from the next on
-bits-from : (k number at : ℕ) → bitsOf (suc k) (number / 2 ^ at) ≡ bitOf number at ∷ bitsOf k (number / 2 ^ (at + 1))
-unfolding bitsOf bitOf
-bits-from k number at = simp (div-one, div-div-eq-div-mul, add-one, pow-succ', mul-comm)
 
 sent-run : (image : Question → ℕ) (s : Sending) (held : Held) (bus : Bus) (bit : Bool) (bits : List Bool) → bus .stage ≡ Stage.Sends s → 0 < bus .at → bus .at + length bits ≡ 7 →
     run image held bus (bit ∷ bits) ≡

@@ -2,14 +2,15 @@
 -- 01, "Memory commands", the first two). Assumes nothing.
 use mathlib.Core.Path.{_≡_, refl, _∙_}
 use mathlib.Core.Bool.{Bool, true, false}
-use mathlib.Core.List.{List, [], _∷_, _++_, map-append, flatMap, append-assoc, append-nil}
+use mathlib.Core.List.{List, [], _∷_, _++_, map-append, flatMap, append-nil}
 use Prim.Native.Nat.{ℕ, zero, suc, _+_, _-_, _*_, _/_, _%_, _<_}
 use native.Mathlib.Numerals.{add-one}
 use native.Mathlib.Omega.{arith}
 use borrow.Author.Tests.{lt-ltb, le-ltb}
-use lib.ListN.{length, length-append, getD, take, drop, set, length-set, drop-of-length-le, replicate-append-replicate}
-use lib.Seq.{length-take-le, drop-cons, take-suc-set, drop-set-lt, set-split, drop-append-seam}
-use Rattle.bits.specs.Bits.{bitsOf}
+use lib.ListN.{length, length-append, getD, take, drop, length-set, drop-of-length-le, replicate-append-replicate}
+use lib.Seq.{length-take-le, drop-cons, drop-append-seam, sets, sets-eq}
+use Rattle.bits.specs.Bits.{bitsOf, slotsOf, released}
+use Rattle.bits.specs.Bits.Laws.{slots-append, released-more}
 use Rattle.crc.specs.Crc.{crcRun, crc16Run, sentLow, sentHigh}
 use Rattle.memory.specs.declared.Addressed.{Addressed}
 use Rattle.memory.specs.declared.Bus.{Bus}
@@ -23,7 +24,7 @@ use Rattle.memory.specs.declared.Stage.{Stage}
 use Rattle.memory.specs.Bus.{clearBus, goTo, addressing, statusByte, padByte}
 use Rattle.memory.specs.Hear.{commandStage, loaded, addressHeard, stored, afterData, heardWhole}
 use Rattle.memory.specs.Send.{firstByte, afterPad, afterCrc, sentWhole, sendAsks}
-use Rattle.memory.specs.Runs.{Ran, run, slotsOf, released, follows, quietly}
+use Rattle.memory.specs.Runs.{Ran, run, follows, quietly}
 use Rattle.memory.specs.Runs.Laws.{run-append, run-heard, run-read}
 
 -- ---- bytes one after the other that ask nothing and do nothing
@@ -78,9 +79,6 @@ crc-run image held bus =
 
 -- ---- Read Scratchpad
 
-released-more : (n : ℕ) → released (suc n * 8) ≡ released 8 ++ released (n * 8)
-released-more n = let more : suc n * 8 ≡ 8 + n * 8 = omega arith in rw (more, replicate-append-replicate 8 (n * 8) true)
-
 -- the bus with more bytes counted in the CRC-16
 abbrev counted : Bus → List ℕ → Bus
 counted bus bytes =
@@ -112,11 +110,6 @@ pad-crc-run image held bus place long inside =
     let bytes = drop place (held .pad) in
     run-then image held _ (released (suc (31 - place) * 8)) (released 16) (pad-run image held bus (31 - place) place long (omega arith)) (crc-run image held (counted bus bytes)) ∙
     quiet-append held (goTo (counted bus bytes) (Stage.Sends (Sending.CrcLow Next.Nothing))) (slotsOf bytes) held _ _
-
-slots-append : (xs ys : List ℕ) → slotsOf (xs ++ ys) ≡ slotsOf xs ++ slotsOf ys
-unfolding flatMap
-slots-append [] ys = refl
-slots-append (x ∷ xs) ys = rw (append-assoc, ← slots-append xs ys)
 
 read-slots : (place : ℕ) → place < 32 →
     released ((3 + (32 - place) + 2) * 8) ≡ released 8 ++ (released 8 ++ (released 8 ++ (released (suc (31 - place) * 8) ++ released 16)))
@@ -155,35 +148,17 @@ read-scratchpad image held long =
 -- bytes stored from a place on: E/S has the place of the last one
 abbrev filled : Held → ℕ → List ℕ → Held
 filled held place bytes =
-    record {
-      pad = take place (held .pad) ++ (bytes ++ drop (place + length bytes) (held .pad));
-      ta = held .ta;
-      ending = place + length bytes - 1;
-      pf = false;
-      aa = held .aa;
-    }
+    record { pad = sets (held .pad) place bytes; ta = held .ta; ending = place + length bytes - 1; pf = false; aa = held .aa }
 
-pad-step : (pad : List ℕ) (place d : ℕ) (ds : List ℕ) → place < length pad →
-    take (place + 1) (set pad place d) ++ (ds ++ drop (place + 1 + length ds) (set pad place d)) ≡
-    take place pad ++ (d ∷ (ds ++ drop (place + suc (length ds)) pad))
-pad-step pad place d ds inside =
-    let past : place < place + 1 + length ds = omega arith in
-    let same : place + 1 + length ds ≡ place + suc (length ds) = omega arith in
-    rw (drop-set-lt (place + 1 + length ds) pad place d past, same, add-one place, take-suc-set pad place d inside, append-assoc)
-
-filled-step : (held : Held) (place d : ℕ) (ds : List ℕ) → place < length (held .pad) → filled (stored held place d) (place + 1) ds ≡ filled held place (d ∷ ds)
+filled-step : (held : Held) (place d : ℕ) (ds : List ℕ) → filled (stored held place d) (place + 1) ds ≡ filled held place (d ∷ ds)
 unfolding stored
-filled-step held place d ds inside =
+filled-step held place d ds =
     let end : place + 1 + length ds - 1 ≡ place + suc (length ds) - 1 = omega arith in
-    rw (pad-step (held .pad) place d ds inside, end)
+    rw (end, add-one place)
 
-filled-one : (held : Held) (place d : ℕ) → place < length (held .pad) → stored held place d ≡ filled held place (d ∷ [])
+filled-one : (held : Held) (place d : ℕ) → stored held place d ≡ filled held place (d ∷ [])
 unfolding stored
-filled-one held place d inside =
-    let pad = held .pad in
-    let split : set pad place d ≡ take place pad ++ (d ∷ drop (place + 1) pad) = rw (add-one place) (set-split pad place d inside) in
-    let end : place + 1 - 1 ≡ place = omega arith in
-    rw (split, end)
+filled-one held place d = let end : place + 1 - 1 ≡ place = omega arith in rw end
 
 more-data : (place : ℕ) → place < 31 → afterData place ≡ Stage.Hears (Hearing.Data (place + 1))
 unfolding afterData
@@ -199,12 +174,12 @@ data-run : (image : Question → ℕ) (held : Held) (bus : Bus) (place d : ℕ) 
 unfolding flatMap heardWhole crcRun
 data-run image held bus place d [] long n small =
     let none : place + 0 ≡ place = omega arith in
-    rw (← filled-one held place d (omega arith), none)
+    rw (← filled-one held place d, none)
     (heard-then image (Hearing.Data place) held bus d [] (small 0) refl (run-nil image (stored held place d) _))
 data-run image held bus place d (e ∷ es) long n small =
     let next : afterData place ≡ Stage.Hears (Hearing.Data (place + 1)) = more-data place (omega arith) in
     let count : place + suc (length es) ≡ place + 1 + length es = omega arith in
-    rw (← filled-step held place d (e ∷ es) (omega arith), count)
+    rw (← filled-step held place d (e ∷ es), count)
     (heard-then image (Hearing.Data place) held bus d (slotsOf (e ∷ es)) (small 0) refl
     (rw next (data-run image (stored held place d) (counted bus (d ∷ [])) (place + 1) e es (long-stored held place d long) (omega arith) (λ i. small (suc i)))))
 
@@ -219,7 +194,8 @@ writeHead address = 0x0F ∷ address % 256 ∷ address / 256 ∷ []
 
 filled-end : (held : Held) (address : ℕ) (bytes : List ℕ) → length (held .pad) ≡ 32 → address % 32 + length bytes ≡ 32 →
     filled (loaded held address) (address % 32) bytes ≡ writtenTo held address bytes
-filled-end held address bytes long end = rw (end, drop-of-length-le (held .pad) {i = 32} (omega arith), append-nil)
+filled-end held address bytes long end =
+    rw (sets-eq bytes (held .pad) (address % 32) (omega arith), end, drop-of-length-le (held .pad) {i = 32} (omega arith), append-nil)
 
 -- "0Fh Write Scratchpad: TA1, TA2, data from offset T4..T0", up to offset 1Fh
 pub write-run : (image : Question → ℕ) (held : Held) (address : ℕ) (bytes : List ℕ) → length (held .pad) ≡ 32 → address < 65536 → address % 32 + length bytes ≡ 32 → ((i : ℕ) → getD bytes i 0 < 256) →
@@ -254,8 +230,12 @@ write-scratchpad image held address bytes long fits end small =
 
 -- ---- the round trip
 
-long-taken : (held : Held) (place : ℕ) → length (held .pad) ≡ 32 → place < 32 → length (take place (held .pad)) ≡ place
-long-taken held place long inside = length-take-le place (held .pad) (omega arith)
+long-taken : (pad : List ℕ) (address : ℕ) → length pad ≡ 32 → length (take (address % 32) pad) ≡ address % 32
+long-taken pad address long = length-take-le (address % 32) pad (omega arith)
+
+-- of a scratchpad that was filled from an address's offset on, the bytes from there on
+pub rest-of-page : (pad : List ℕ) (address : ℕ) (bytes : List ℕ) → length pad ≡ 32 → drop (address % 32) (take (address % 32) pad ++ bytes) ≡ bytes
+rest-of-page pad address bytes long = rw (long-taken pad address long) at (drop-append-seam (take (address % 32) pad) bytes)
 
 -- what was written from the offset to 1Fh is read back after a reset, behind TA1, TA2 and E/S = 1Fh (PF 0, AA 0), with the CRC-16 of it all
 pub round-trip : (image : Question → ℕ) (held : Held) (address : ℕ) (bytes : List ℕ) → length (held .pad) ≡ 32 → address < 65536 → address % 32 + length bytes ≡ 32 → ((i : ℕ) → getD bytes i 0 < 256) →
@@ -268,8 +248,8 @@ pub round-trip : (image : Question → ℕ) (held : Held) (address : ℕ) (bytes
 unfolding statusByte
 round-trip image held address bytes long fits end small =
     let after = writtenTo held address bytes in
-    let first : length (take (address % 32) (held .pad)) ≡ address % 32 = long-taken held (address % 32) long (omega arith) in
+    let first = long-taken (held .pad) address long in
     let count : length bytes ≡ 32 - address % 32 = omega arith in
     let whole : length (after .pad) ≡ 32 = rw (length-append (take (address % 32) (held .pad)) bytes, first) end in
-    let back : drop (address % 32) (after .pad) ≡ bytes = rw first at (drop-append-seam (take (address % 32) (held .pad)) bytes) in
+    let back = rest-of-page (held .pad) address bytes long in
     rw (write-run image held address bytes long fits end small, count) (rw back at (read-scratchpad image after whole))

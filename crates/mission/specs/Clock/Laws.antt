@@ -1,32 +1,21 @@
 -- What is stored as a clock is read back, and a change that leaves the clock's bytes leaves the clock. Assumes nothing.
-use mathlib.Core.Path.{_≡_, refl, _∙_}
-use mathlib.Core.Bool.{true}
+use mathlib.Core.Path.{_≡_, refl, _∙_, ap, sym}
 use mathlib.Core.List.{List, [], _∷_}
 use Prim.Native.Nat.{ℕ, zero, suc, _+_, _≤_, _<_}
-use native.Mathlib.Nat.{zero-add, suc-add, add-suc, not-suc-le-zero}
+use native.Mathlib.Nat.{suc-add, add-suc, not-suc-le-zero, add-zero}
 use native.Mathlib.Omega.{arith}
+use lib.Bits.{bitAnd}
 use lib.Dec.{T}
-use lib.Ieee.Fits.{and-l}
 use lib.ListN.{length, getD, set, length-set}
 use lib.Seq.{getD-set-same, getD-set-other}
 use Rattle.calendar.specs.declared.Clock.{Clock}
-use Rattle.image.specs.Fields.{wordAt, apart}
-use Rattle.image.specs.Fields.Laws.{apart-sym, apart-part, byte-set-other}
-use Rattle.image.specs.Keeps.{Run, free, free-part, Keeps, keeps-same, keeps-then}
+use Rattle.image.specs.Fields.{wordAt}
+use Rattle.image.specs.Keeps.{Run, free, free-part, Keeps, keeps-same, keeps-then, keeps-within}
 use Rattle.image.specs.Registers.{stamp}
-use Rattle.image.specs.Tables.{registerAt}
+use Rattle.image.specs.Tables.{registerAt, named}
 use Rattle.mission.specs.Clock.{clockOf, stampOf, putBytes, putClock}
 
 -- ---- bytes
-
--- a store within a run
-pub keeps-within : (image : List ℕ) (at n k b : ℕ) → at ≤ k → k < at + n → Keeps ((at, n) ∷ []) image (set image k b)
-keeps-within image at n k b lo hi =
-    record {
-      lengths = length-set image k b;
-      bytes = λ j t. byte-set-other image k b j
-          (apart-sym j 1 k 1 (apart-part j 1 at n k 1 lo (omega arith) (apart-sym at n j 1 (and-l (apart at n j 1) true t))));
-    }
 
 -- stores within a run
 pub keeps-putBytes : (image : List ℕ) (at n k : ℕ) (bs : List ℕ) → at ≤ k → k + length bs ≤ at + n
@@ -44,14 +33,14 @@ below-putBytes image at k (b ∷ bs) h =
 
 -- each is read back
 pub byte-putBytes : (image : List ℕ) (at i : ℕ) (bs : List ℕ) → i < length bs → at + length bs ≤ length image
-    → getD (putBytes image at bs) (i + at) 0 ≡ getD bs i 0
+    → getD (putBytes image at bs) (at + i) 0 ≡ getD bs i 0
 unfolding putBytes
 byte-putBytes image at i [] h fits = absurd (not-suc-le-zero h)
 byte-putBytes image at zero (b ∷ bs) h fits =
-    rw (zero-add at)
+    rw (add-zero at)
     (below-putBytes (set image at b) (suc at) at bs (omega arith) ∙ getD-set-same image at b 0 (omega arith))
 byte-putBytes image at (suc i) (b ∷ bs) h fits =
-    rw (suc-add i at, ← add-suc i at)
+    rw (add-suc at i, ← suc-add at i)
     (byte-putBytes (set image at b) (suc at) i bs (omega arith) (rw (length-set image at b) (omega arith)))
 
 -- ---- a clock in the image
@@ -60,51 +49,77 @@ pub keeps-putClock : (image : List ℕ) (at : ℕ) (c : Clock) → Keeps ((at, 6
 unfolding putClock
 keeps-putClock image at c = keeps-putBytes image at 6 at _ (omega arith) (omega arith)
 
--- the clock is made of its six bytes alone, and so is the stamp
-pub clock-kept : {runs : List Run} {before after : List ℕ} → Keeps runs before after → T (free runs 0x0200 6)
-    → clockOf after ≡ clockOf before
-unfolding clockOf registerAt
-clock-kept {runs} {before} {after} p t =
-    let same : (k : ℕ) → 0x0200 ≤ k → k < 0x0206 → getD after k 0 ≡ getD before k 0 =
-    λ k lo hi. p .bytes k (free-part runs 0x0200 6 k 1 lo (omega arith) t) in
+-- the six bytes from a place on, as a clock: the stamp's are these
+abbrev pub sixAt : List ℕ → ℕ → Clock
+sixAt image at =
+    record {
+      seconds = getD image at 0;
+      minutes = getD image (at + 1) 0;
+      hours = getD image (at + 2) 0;
+      date = getD image (at + 3) 0;
+      month = getD image (at + 4) 0;
+      year = getD image (at + 5) 0;
+    }
+
+-- a change that leaves them leaves it
+pub six-kept : {runs : List Run} {before after : List ℕ} (at : ℕ) → Keeps runs before after → T (free runs at 6) → sixAt after at ≡ sixAt before at
+six-kept {runs} {before} {after} at p t =
+    let same : (k : ℕ) → at ≤ k → k < at + 6 → getD after k 0 ≡ getD before k 0 =
+    λ k lo hi. p .bytes k (free-part runs at 6 k 1 lo (omega arith) t) in
     rw (
-      same 0x0200 (omega arith) (omega arith),
-      same 0x0201 (omega arith) (omega arith),
-      same 0x0202 (omega arith) (omega arith),
-      same 0x0203 (omega arith) (omega arith),
-      same 0x0204 (omega arith) (omega arith),
-      same 0x0205 (omega arith) (omega arith),
+      same at (omega arith) (omega arith),
+      same (at + 1) (omega arith) (omega arith),
+      same (at + 2) (omega arith) (omega arith),
+      same (at + 3) (omega arith) (omega arith),
+      same (at + 4) (omega arith) (omega arith),
+      same (at + 5) (omega arith) (omega arith),
     )
 
-pub stamp-kept : {runs : List Run} {before after : List ℕ} → Keeps runs before after → T (free runs 0x0219 6)
-    → stampOf after ≡ stampOf before
-unfolding stampOf
-stamp-kept {runs} {before} {after} p t =
-    let same : (k : ℕ) → 0x0219 ≤ k → k < 0x021F → getD after k 0 ≡ getD before k 0 =
-    λ k lo hi. p .bytes k (free-part runs 0x0219 6 k 1 lo (omega arith) t) in
+-- and a clock that is put there is read back
+pub six-putClock : (image : List ℕ) (at : ℕ) (c : Clock) → at + 6 ≤ length image → sixAt (putClock image at c) at ≡ c
+unfolding putClock
+six-putClock image at c fits =
+    let six : List ℕ = c .seconds ∷ c .minutes ∷ c .hours ∷ c .date ∷ c .month ∷ c .year ∷ [] in
+    let back : (i : ℕ) → i < 6 → getD (putClock image at c) (at + i) 0 ≡ getD six i 0 =
+    λ i h. byte-putBytes image at i six h fits in
+    let first : at + 0 ≡ at = omega arith in
     rw (
-      same 0x0219 (omega arith) (omega arith),
-      same 0x021A (omega arith) (omega arith),
-      same 0x021B (omega arith) (omega arith),
-      same 0x021C (omega arith) (omega arith),
-      same 0x021D (omega arith) (omega arith),
-      same 0x021E (omega arith) (omega arith),
-    )
-
--- a stamp is read back
-pub stamp-putClock : (image : List ℕ) (c : Clock) → 0x021F ≤ length image → stampOf (putClock image 0x0219 c) ≡ c
-unfolding stampOf putClock
-stamp-putClock image c fits =
-    let back : (i : ℕ) → i < 6 → getD (putClock image 0x0219 c) (i + 0x0219) 0 ≡ getD (c .seconds ∷ c .minutes ∷ c .hours ∷ c .date ∷ c .month ∷ c .year ∷ []) i 0 =
-    λ i h. byte-putBytes image 0x0219 i _ h fits in
-    rw (
-      back 0 (omega arith),
+      rw first at (back 0 (omega arith)),
       back 1 (omega arith),
       back 2 (omega arith),
       back 3 (omega arith),
       back 4 (omega arith),
       back 5 (omega arith),
     )
+
+pub stamp-kept : {runs : List Run} {before after : List ℕ} → Keeps runs before after → T (free runs 0x0219 6)
+    → stampOf after ≡ stampOf before
+unfolding stampOf
+stamp-kept p t = six-kept 0x0219 p t
+
+pub stamp-putClock : (image : List ℕ) (c : Clock) → 0x021F ≤ length image → stampOf (putClock image 0x0219 c) ≡ c
+unfolding stampOf
+stamp-putClock image c fits = six-putClock image 0x0219 c fits
+
+-- the clock's own are those at 0200h, their named bits alone
+abbrev pub named-bits : Clock → Clock
+named-bits c =
+    record {
+      seconds = bitAnd (c .seconds) 0x7F;
+      minutes = bitAnd (c .minutes) 0x7F;
+      hours = bitAnd (c .hours) 0x3F;
+      date = bitAnd (c .date) 0x3F;
+      month = bitAnd (c .month) 0x9F;
+      year = bitAnd (c .year) 0xFF;
+    }
+
+pub clock-six : (image : List ℕ) → clockOf image ≡ named-bits (sixAt image 0x0200)
+unfolding clockOf registerAt named
+clock-six image = refl
+
+pub clock-kept : {runs : List Run} {before after : List ℕ} → Keeps runs before after → T (free runs 0x0200 6)
+    → clockOf after ≡ clockOf before
+clock-kept {before = before} {after = after} p t = clock-six after ∙ ap named-bits (six-kept 0x0200 p t) ∙ sym (clock-six before)
 
 -- a stamp that is the number 0 is six zeros
 pub stamp-zero : (image : List ℕ) → stamp image ≡ 0

@@ -1,6 +1,6 @@
--- The image gives a clock with its named bits alone, and such a clock is read back from it. Assumes nothing.
+-- A clock that has its named bits alone is read back from the image. Assumes nothing.
 use mathlib.Core.Path.{_≡_, ap, _∙_}
-use mathlib.Core.List.{List, [], _∷_}
+use mathlib.Core.List.{List}
 use Prim.Native.Nat.{ℕ, _+_, _-_, _*_, _/_, _%_, _^_, _≤_, _<_}
 use native.Mathlib.Nat.{mod-eq-of-lt}
 use native.Mathlib.Omega.{arith}
@@ -10,7 +10,7 @@ use Rattle.calendar.specs.Calendar.Named.{Named}
 use Rattle.calendar.specs.declared.Clock.{Clock}
 use Rattle.image.specs.Tables.{registerAt, named}
 use Rattle.mission.specs.Clock.{clockOf, putClock}
-use Rattle.mission.specs.Clock.Laws.{byte-putBytes}
+use Rattle.mission.specs.Clock.Laws.{named-bits, clock-six, six-putClock}
 
 pub clock-named : (image : List ℕ) → Named (clockOf image)
 unfolding clockOf registerAt named
@@ -37,17 +37,9 @@ month-bits m low h =
 
 -- such a clock is read back
 pub clock-putClock : (image : List ℕ) (c : Clock) → 0x0206 ≤ length image → Named c → clockOf (putClock image 0x0200 c) ≡ c
-unfolding clockOf putClock registerAt named
 clock-putClock image c fits n =
-    let back : (i : ℕ) → i < 6 → getD (putClock image 0x0200 c) (i + 0x0200) 0 ≡ getD (c .seconds ∷ c .minutes ∷ c .hours ∷ c .date ∷ c .month ∷ c .year ∷ []) i 0 =
-    λ i h. byte-putBytes image 0x0200 i _ h fits in
-    rw (
-      back 0 (omega arith),
-      back 1 (omega arith),
-      back 2 (omega arith),
-      back 3 (omega arith),
-      back 4 (omega arith),
-      back 5 (omega arith),
+    clock-six (putClock image 0x0200 c) ∙ ap named-bits (six-putClock image 0x0200 c fits)
+    ∙ rw (
       low-bits (c .seconds) 7 (n .seconds),
       low-bits (c .minutes) 7 (n .minutes),
       low-bits (c .hours) 6 (n .hours),

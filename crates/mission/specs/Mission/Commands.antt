@@ -9,11 +9,11 @@ use borrow.Author.Tests.{not-true, eqb-false}
 use lib.Dec.{eqb}
 use Rattle.bits.specs.Choose.{if_then_else_}
 use Rattle.image.specs.Fields.Laws.{word-putWord, flag-putFlag}
+use Rattle.image.specs.Leaves.{leaves-putWord, leaves-putFlag, word-left}
 use Rattle.image.specs.Registers
 use Rattle.image.specs.Registers.{mip, putLatest, putEosc, putBor, putThf, putTlf, putMip, putMemclr, putStamp, putMissionSamples}
 use Rattle.mission.specs.Clock.{stampOf}
 use Rattle.mission.specs.Clock.Laws.{stamp-zero}
-use Rattle.mission.specs.Leaves.{leaves-putWord, leaves-putFlag, word-left}
 use Rattle.mission.specs.Mission.{cleared, mayStart, started, stopped, deviceCounted, alarms, forced}
 use Rattle.mission.specs.Mission.Frames.{leaves-deviceCounted, leaves-wftaCleared}
 use Rattle.mission.specs.Mission.Reads.{device-counted, wfta-cleared}

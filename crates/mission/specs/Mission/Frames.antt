@@ -3,16 +3,15 @@
 use mathlib.Core.Path.{_≡_}
 use mathlib.Core.Bool.{Bool, true, false}
 use mathlib.Core.List.{List, [], _∷_}
-use Prim.Native.Nat.{ℕ, _+_, _*_, _/_, _%_, _≤_, _<_}
+use Prim.Native.Nat.{ℕ, _+_, _*_, _/_, _%_}
 use native.Mathlib.Omega.{arith}
 use lib.Dec.{ltb, eqb}
-use lib.ListN.{getD, set}
+use lib.ListN.{set}
 use Rattle.bits.specs.Choose.{if_then_else_}
-use Rattle.image.specs.Keeps.{Run, Keeps, free-part, keeps-then, keeps-wider, word-kept}
-use Rattle.image.specs.Registers
+use Rattle.image.specs.Keeps.{Keeps, keeps-then, keeps-within}
+use Rattle.image.specs.Leaves.{Leaves, leaves-same, leaves-then, leaves-choice, leaves-wider, leaves-keeps, leaves-putWord, leaves-putFlag}
 use Rattle.image.specs.Registers.{eosc, tlfs, mip, missionSamples, deviceSamples}
-use Rattle.mission.specs.Clock.Laws.{keeps-within, keeps-putClock}
-use Rattle.mission.specs.Leaves.{Leaves, leaves-same, leaves-then, leaves-choice, leaves-wider, leaves-keeps, leaves-putWord, leaves-putFlag}
+use Rattle.mission.specs.Clock.Laws.{keeps-putClock}
 use Rattle.mission.specs.Mission.{cleared, mayStart, started, stopped, deviceCounted, latestStored, alarmsHigh, alarmsLow, alarms, thfSet, tlfSet, measured, waiting, places, logged, stamped, counted, recorded, ended, converted, clocked, delaying, minuteOver, due, missionTicked, ticked, wftaCleared, forced}
 use Rattle.mission.specs.declared.Counters.{Counters}
 
@@ -162,42 +161,3 @@ mip-cleared image = leaves-cleared image .bits 0x0215 1 tt tt tt
 
 pub mip-forced : (image : List ℕ) (c : Counters) → mip (forced image c) ≡ mip image
 mip-forced image c = leaves-forced image c .bits 0x0215 1 tt tt tt
-
--- ---- all that a tick or a control command ever touches
-
-abbrev pub missionRuns : List Run
-missionRuns =
-    (0x0200, 6) ∷ (0x020C, 2) ∷ (0x0212, 1) ∷ (0x0214, 2) ∷ (0x0216, 3) ∷ (0x0219, 6) ∷ (0x0220, 6) ∷ (640, 8192) ∷ []
-
-pub keeps-ticked : (image : List ℕ) (c : Counters) (reading : ℕ) → Keeps missionRuns image (ticked image c reading)
-keeps-ticked image c reading = keeps-wider missionRuns _ tt (leaves-ticked image c reading .keeps)
-
-pub keeps-cleared : (image : List ℕ) → Keeps missionRuns image (cleared image)
-keeps-cleared image = keeps-wider missionRuns _ tt (leaves-cleared image .keeps)
-
-pub keeps-started : (image : List ℕ) → Keeps missionRuns image (started image)
-keeps-started image = keeps-wider missionRuns _ tt (leaves-started image .keeps)
-
-pub keeps-stopped : (image : List ℕ) → Keeps missionRuns image (stopped image)
-keeps-stopped image = keeps-wider missionRuns _ tt (leaves-stopped image .keeps)
-
-pub keeps-forced : (image : List ℕ) (c : Counters) → Keeps missionRuns image (forced image c)
-keeps-forced image c = keeps-wider missionRuns _ tt (leaves-forced image c .keeps)
-
--- so user memory, calibration, the control byte and the passwords stay
-pub record Untouched (before after : List ℕ) : Type 0 where
-  pub user : (k : ℕ) → k < 0x0200 → getD after k 0 ≡ getD before k 0
-  pub calibration : (k : ℕ) → 0x0240 ≤ k → k < 0x0280 → getD after k 0 ≡ getD before k 0
-  pub control : Registers.passwordControl after ≡ Registers.passwordControl before
-  pub readPassword : Registers.readPassword after ≡ Registers.readPassword before
-  pub fullPassword : Registers.fullPassword after ≡ Registers.fullPassword before
-
-pub untouched : {before after : List ℕ} → Keeps missionRuns before after → Untouched before after
-untouched p =
-    record {
-      user = λ k h. p .bytes k (free-part missionRuns 0 0x0200 k 1 (omega arith) (omega arith) tt);
-      calibration = λ k lo hi. p .bytes k (free-part missionRuns 0x0240 0x40 k 1 lo (omega arith) tt);
-      control = p .bytes 0x0227 tt;
-      readPassword = word-kept 0x0228 8 p tt;
-      fullPassword = word-kept 0x0230 8 p tt;
-    }

@@ -1,14 +1,14 @@
 -- Counters in their ranges stay there: over ticks with a reading, and over Start. Assumes nothing.
-use mathlib.Core.Path.{_≡_, refl}
-use mathlib.Core.Bool.{Bool, true, false, _&&_, and-eq-true-iff}
+use mathlib.Core.Path.{_≡_}
+use mathlib.Core.Bool.{true, _&&_, and-eq-true-iff}
 use mathlib.Core.List.{List}
-use Prim.Native.Nat.{ℕ, _+_, _-_, _*_, _≤_, _<_}
+use Prim.Native.Nat.{ℕ, _≤_, _<_}
 use native.Mathlib.Omega.{arith}
 use borrow.Author.Tests.{le-leb, leb-true, leb-false, lt-ltb, ltb-true}
 use lib.Dec.{leb, ltb, eqb}
-use Rattle.bits.specs.Choose.{if_then_else_}
-use Rattle.image.specs.Registers.{rate, ehss}
-use Rattle.mission.specs.Mission.{mayStart, startedCounters, clocked, periodOf, period, delaying, minuteOver, converting, nextMinute, nextWait, tickedCounters, countersInRange}
+use Rattle.bits.specs.Choose.{choice, either}
+use Rattle.mission.specs.Mission.{mayStart, startedCounters, clocked, delaying, minuteOver, converting, nextMinute, nextWait, tickedCounters, countersInRange}
+use Rattle.mission.specs.Mission.Laws.{period-le}
 use Rattle.mission.specs.declared.Counters.{Counters}
 
 -- the ranges as facts
@@ -32,32 +32,17 @@ pub facts-range : (c : Counters) → InRange c → countersInRange c ≡ true
 unfolding countersInRange
 facts-range c r = rw (le-leb (c .reading) 2047 (r .reading), lt-ltb (c .minute) 60 (r .minute), lt-ltb (c .wait) 982980 (r .wait))
 
--- "rate 16383 in minutes: 982,980 s" is the longest period
-pub period-le : (image : List ℕ) → period image ≤ 982980
-unfolding period periodOf
-period-le image = by-unit (ehss image)
-  where
-    by-unit : (t : Bool) → (if t then rate image else rate image * 60) ≤ 982980
-    by-unit true = omega arith
-    by-unit false = omega arith
-
 minute-lt : (image : List ℕ) (c : Counters) → c .minute < 60 → nextMinute image c < 60
 unfolding nextMinute minuteOver
-minute-lt image c h = by-tests (delaying image) (leb 59 (c .minute)) refl
-  where
-    by-tests : (t u : Bool) → leb 59 (c .minute) ≡ u → (if t then (if u then 0 else c .minute + 1) else c .minute) < 60
-    by-tests true true e = omega arith
-    by-tests true false e = omega (arith, leb-false 59 (c .minute) e)
-    by-tests false u e = h
+minute-lt image c h =
+    let P : ℕ → Type 0 = λ n. n < 60 in
+    choice P (delaying image) (either P (leb 59 (c .minute)) (λ e. omega arith) (λ e. omega (arith, leb-false 59 (c .minute) e))) h
 
 wait-lt : (image : List ℕ) (c : Counters) → c .wait < 982980 → nextWait image c < 982980
 unfolding nextWait
-wait-lt image c h = by-tests (converting image) (eqb (c .wait) 0)
-  where
-    by-tests : (t u : Bool) → (if t then (if u then period image - 1 else c .wait - 1) else c .wait) < 982980
-    by-tests true true = omega (arith, period-le image)
-    by-tests true false = omega arith
-    by-tests false u = h
+wait-lt image c h =
+    let P : ℕ → Type 0 = λ n. n < 982980 in
+    choice P (converting image) (choice P (eqb (c .wait) 0) (omega (arith, period-le image)) (omega arith)) h
 
 pub range-ticked : (image : List ℕ) (c : Counters) (reading : ℕ) → countersInRange c ≡ true → reading ≤ 2047
     → countersInRange (tickedCounters image c reading) ≡ true
@@ -68,8 +53,7 @@ range-ticked image c reading e h =
 
 pub range-started : (image : List ℕ) (c : Counters) → countersInRange c ≡ true → countersInRange (startedCounters image c) ≡ true
 unfolding startedCounters
-range-started image c e = by-test (mayStart image)
-  where
-    by-test : (t : Bool) → countersInRange (if t then record { reading = c .reading; minute = 0; wait = 0 } else c) ≡ true
-    by-test true = facts-range _ (record { reading = range-facts c e .reading; minute = omega arith; wait = omega arith })
-    by-test false = e
+range-started image c e =
+    choice (λ (k : Counters). countersInRange k ≡ true) (mayStart image)
+    (facts-range _ (record { reading = range-facts c e .reading; minute = omega arith; wait = omega arith }))
+    e

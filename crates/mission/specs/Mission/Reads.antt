@@ -7,15 +7,16 @@ use Prim.Native.Nat.{ℕ, _+_, _*_, _/_, _%_, _^_, _<_, min}
 use native.Mathlib.Decide.{ℕ-discrete}
 use native.Mathlib.Omega.{arith}
 use borrow.Author.Tests.{eq-eqb, ne-eqb, ltb-true, ltb-false}
-use lib.Dec.{ltb, eqb}
+use lib.Dec.{ltb, eqb, T}
 use lib.ListN.{length, getD, set, length-set}
 use lib.Seq.{getD-set-same, getD-set-other}
-use Rattle.bits.specs.Choose.{if_then_else_}
-use Rattle.image.specs.Fields.{putWord, putFlag}
+use Rattle.bits.specs.Choose.{if_then_else_, choices, either}
+use Rattle.calendar.specs.declared.Clock.{Clock}
+use Rattle.image.specs.Fields.{putFlag, flagAt}
 use Rattle.image.specs.Fields.Laws.{word-putWord, word-lt, flag-putFlag}
 use Rattle.image.specs.Keeps.{keeps-putWord, flag-kept}
 use Rattle.image.specs.Registers.{latest, tlfs, thf, tlf, wfta, missionSamples, deviceSamples}
-use Rattle.mission.specs.Clock.{clockOf, stampOf, putClock}
+use Rattle.mission.specs.Clock.{clockOf, stampOf}
 use Rattle.mission.specs.Clock.Laws.{stamp-kept, stamp-putClock}
 use Rattle.mission.specs.Mission.{deviceCounted, resolved, latestStored, alarmsHigh, alarmsLow, alarms, thfSet, tlfSet, places, logged, entryAt, stamped, counted, wftaCleared}
 use Rattle.mission.specs.Mission.Frames.{leaves-logged, leaves-stamped}
@@ -57,14 +58,12 @@ module _ {image : List ℕ} (w : Whole image) where
 
   pub device-counted : deviceSamples (deviceCounted image) ≡ min (deviceSamples image + 1) 0xFFFFFF
   unfolding deviceCounted
-  device-counted = go (ltb (deviceSamples image) 0xFFFFFF) refl
-    where
-      go : (t : Bool) → ltb (deviceSamples image) 0xFFFFFF ≡ t
-          → deviceSamples (if t then putWord image 0x0223 3 (deviceSamples image + 1) else image) ≡ min (deviceSamples image + 1) 0xFFFFFF
-      go true e =
-          let lt = ltb-true (deviceSamples image) 0xFFFFFF e in
-          rw (word-putWord image 0x0223 3 (deviceSamples image + 1) (omega (arith, w .size))) (omega arith)
-      go false e = omega (arith, ltb-false (deviceSamples image) 0xFFFFFF e, word-lt image 0x0223 3 (w .bytes))
+  device-counted =
+      either (λ (i : List ℕ). deviceSamples i ≡ min (deviceSamples image + 1) 0xFFFFFF) (ltb (deviceSamples image) 0xFFFFFF)
+      (λ e.
+      let lt = ltb-true (deviceSamples image) 0xFFFFFF e in
+      rw (word-putWord image 0x0223 3 (deviceSamples image + 1) (omega (arith, w .size))) (omega arith))
+      (λ e. omega (arith, ltb-false (deviceSamples image) 0xFFFFFF e, word-lt image 0x0223 3 (w .bytes)))
 
   pub mission-counted : missionSamples image < 0xFFFFFF → missionSamples (counted image) ≡ missionSamples image + 1
   unfolding counted
@@ -77,45 +76,33 @@ module _ {image : List ℕ} (w : Whole image) where
   pub latest-stored : (reading : ℕ) → latest (latestStored image reading) ≡ resolved image (reading % 2048)
   unfolding latestStored resolved
   latest-stored reading =
-      rw (word-putWord image 0x020C 2 ((if tlfs image then reading else reading / 8 * 8) * 32) (omega (arith, w .size))) (go (tlfs image))
-    where
-      go : (t : Bool) → (if t then reading else reading / 8 * 8) * 32 % 256 ^ 2 / 32 ≡ if t then reading % 2048 else reading % 2048 / 8 * 8
-      go true = omega arith
-      go false = omega arith
+      rw (word-putWord image 0x020C 2 ((if tlfs image then reading else reading / 8 * 8) * 32) (omega (arith, w .size)))
+      (choices (λ (n m : ℕ). n * 32 % 256 ^ 2 / 32 ≡ m) (tlfs image) (omega arith) (omega arith))
+
+  -- a flag of 0214h that is put where a test passes
+  raised : (i : ℕ) (t : Bool) → T (ltb i 8) → flagAt (if t then putFlag image 0x0214 i true else image) 0x0214 i ≡ t || flagAt image 0x0214 i
+  raised i true small = flag-putFlag image 0x0214 i true (omega (arith, w .size)) small
+  raised i false small = refl
 
   pub thf-set : (reading : ℕ) → thf (thfSet image reading) ≡ alarmsHigh image reading || thf image
   unfolding thfSet
-  thf-set reading = go (alarmsHigh image reading)
-    where
-      go : (t : Bool) → thf (if t then putFlag image 0x0214 1 true else image) ≡ t || thf image
-      go true = flag-putFlag image 0x0214 1 true (omega (arith, w .size)) tt
-      go false = refl
+  thf-set reading = raised 1 (alarmsHigh image reading) tt
 
   pub tlf-set : (reading : ℕ) → tlf (tlfSet image reading) ≡ alarmsLow image reading || tlf image
   unfolding tlfSet
-  tlf-set reading = go (alarmsLow image reading)
-    where
-      go : (t : Bool) → tlf (if t then putFlag image 0x0214 0 true else image) ≡ t || tlf image
-      go true = flag-putFlag image 0x0214 0 true (omega (arith, w .size)) tt
-      go false = refl
+  tlf-set reading = raised 0 (alarmsLow image reading) tt
 
   pub wfta-cleared : (reading : ℕ) → wfta (wftaCleared image reading) ≡ if alarms image reading then false else wfta image
   unfolding wftaCleared
-  wfta-cleared reading = go (alarms image reading)
-    where
-      go : (t : Bool) → wfta (if t then putFlag image 0x0215 4 false else image) ≡ if t then false else wfta image
-      go true = flag-putFlag image 0x0215 4 false (omega (arith, w .size)) tt
-      go false = refl
+  wfta-cleared reading =
+      choices (λ (i : List ℕ) (b : Bool). wfta i ≡ b) (alarms image reading) (flag-putFlag image 0x0215 4 false (omega (arith, w .size)) tt) refl
 
   -- ---- the stamp
 
   pub stamp-stamped : stampOf (stamped image) ≡ if eqb (missionSamples image) 0 then clockOf image else stampOf image
   unfolding stamped
-  stamp-stamped = go (eqb (missionSamples image) 0)
-    where
-      go : (t : Bool) → stampOf (if t then putClock image 0x0219 (clockOf image) else image) ≡ if t then clockOf image else stampOf image
-      go true = stamp-putClock image (clockOf image) (omega (arith, w .size))
-      go false = refl
+  stamp-stamped =
+      choices (λ (i : List ℕ) (c : Clock). stampOf i ≡ c) (eqb (missionSamples image) 0) (stamp-putClock image (clockOf image) (omega (arith, w .size))) refl
 
   pub stamp-counted : stampOf (counted image) ≡ if eqb (missionSamples image) 0 then clockOf image else stampOf image
   unfolding counted

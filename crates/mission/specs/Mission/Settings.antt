@@ -6,8 +6,8 @@ use Prim.Native.Nat.{ℕ, _+_, _%_, _^_, _≤_}
 use native.Mathlib.Omega.{arith}
 use lib.Dec.{T}
 use Rattle.image.specs.Keeps.{Run, free, free-part, word-kept, flag-kept}
+use Rattle.image.specs.Leaves.{Flag, spares, touched, Leaves}
 use Rattle.image.specs.Registers
-use Rattle.mission.specs.Leaves.{Flag, spares, touched, Leaves}
 use Rattle.mission.specs.Mission.{cleared, started, stopped, resolved, alarmsHigh, alarmsLow, alarms, places, period, ticked, forced}
 use Rattle.mission.specs.Mission.Frames.{leaves-ticked, leaves-cleared, leaves-started, leaves-stopped, leaves-forced}
 use Rattle.mission.specs.declared.Counters.{Counters}

@@ -7,14 +7,15 @@ use Prim.Native.Nat.{ℕ, _-_, _%_, _≤_}
 use native.Mathlib.Omega.{arith}
 use lib.Dec.{eqb}
 use lib.ListN.{length}
-use Rattle.bits.specs.Choose.{if_then_else_}
+use Rattle.bits.specs.Choose.{if_then_else_, choices}
 use Rattle.calendar.specs.Calendar.{nextSecond}
 use Rattle.calendar.specs.Calendar.Named.{named-next}
+use Rattle.calendar.specs.declared.Clock.{Clock}
 use Rattle.image.specs.Fields.Laws.{word-lt, word-putWord}
+use Rattle.image.specs.Leaves.{word-left}
 use Rattle.image.specs.Registers.{eosc, mip, rate, delay, wfta, missionSamples, putDelay}
-use Rattle.mission.specs.Clock.{clockOf, putClock}
+use Rattle.mission.specs.Clock.{clockOf}
 use Rattle.mission.specs.Clock.Named.{clock-named, clock-putClock}
-use Rattle.mission.specs.Leaves.{word-left}
 use Rattle.mission.specs.Mission.{ended, converted, clocked, delaying, minuteOver, converting, due, missionTicked, nextMinute, nextWait, ticked, tickedCounters}
 use Rattle.mission.specs.Mission.Converts.{Converts, converts, ended-same, records-shift}
 use Rattle.mission.specs.Mission.Frames.{leaves-clocked, leaves-converted}
@@ -27,17 +28,10 @@ use Rattle.mission.specs.declared.Counters.{Counters}
 pub clock-clocked : (image : List ℕ) → 0x0206 ≤ length image
     → clockOf (clocked image) ≡ if eosc image then nextSecond (clockOf image) else clockOf image
 unfolding clocked
-clock-clocked image fits = by-test (eosc image)
-  where
-    by-test : (t : Bool) → clockOf (if t then putClock image 0x0200 (nextSecond (clockOf image)) else image)
-        ≡ if t then nextSecond (clockOf image) else clockOf image
-    by-test true = clock-putClock image (nextSecond (clockOf image)) fits (named-next (clockOf image) (clock-named image))
-    by-test false = refl
-
--- with the clock stopped it changes nothing
-pub clocked-stopped : (image : List ℕ) → eosc image ≡ false → clocked image ≡ image
-unfolding clocked
-clocked-stopped image e = rw e
+clock-clocked image fits =
+    choices (λ (i : List ℕ) (c : Clock). clockOf i ≡ c) (eosc image)
+    (clock-putClock image (nextSecond (clockOf image)) fits (named-next (clockOf image) (clock-named image)))
+    refl
 
 -- ---- what a tick goes by is not the clock
 

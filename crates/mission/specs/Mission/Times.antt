@@ -2,7 +2,7 @@
 -- every period" (document 01, "A mission"). Delay register and counters say after each tick which number it had.
 -- Assumes nothing.
 use mathlib.Core.Path.{_≡_, refl, sym, ap, _∙_}
-use mathlib.Core.Bool.{Bool, true, not, _&&_}
+use mathlib.Core.Bool.{Bool, true, not, _&&_, Bool·not-not, and-true}
 use mathlib.Core.List.{List}
 use mathlib.Core.Logic.{dite}
 use Prim.Native.Nat.{ℕ, suc, _+_, _-_, _*_, _/_, _%_, _≤_, _<_}
@@ -10,15 +10,16 @@ use native.Mathlib.Nat.{mod-eq-of-lt, mod-lt, mod-self, suc-mod, sub-zero, zero-
 use native.Mathlib.Decide.{ℕ-discrete, decLt}
 use native.Mathlib.Omega.{arith}
 use borrow.Author.Tests.{ne-eqb, lt-leb, le-leb, lt-ltb, le-ltb}
-use lib.Dec.{eqb, leb, ltb}
-use Rattle.bits.specs.Choose.{if_then_else_, either}
+use lib.Dec.{eqb, leb, ltb, T}
+use Rattle.bits.specs.Choose.{if_then_else_, either, choice}
+use Rattle.image.specs.Keeps.{Run, free}
+use Rattle.image.specs.Leaves.{word-left, Flag, spares, touched, Leaves}
 use Rattle.image.specs.Registers.{mip, rate, delay}
-use Rattle.mission.specs.Leaves.{word-left}
 use Rattle.mission.specs.Mission.{mayStart, started, startedCounters, period, delaying, minuteOver, converting, due, nextMinute, nextWait, ticked, tickedCounters}
 use Rattle.mission.specs.Mission.Commands.{may-start, starts}
-use Rattle.mission.specs.Mission.Frames.{mip-ticked, leaves-started}
+use Rattle.mission.specs.Mission.Frames.{mip-ticked}
 use Rattle.mission.specs.Mission.Laws.{period-pos}
-use Rattle.mission.specs.Mission.Settings.{settings-ticked, settings-started, period-same}
+use Rattle.mission.specs.Mission.Settings.{settings-ticked, settings-started, period-same, SameSettings}
 use Rattle.mission.specs.Mission.Ticks.{counters-ticked, delay-ticked}
 use Rattle.mission.specs.Mission.Whole.{Whole}
 use Rattle.mission.specs.declared.Counters.{Counters}
@@ -139,44 +140,59 @@ pub record OnTime (d p t : ℕ) (image : List ℕ) (c : Counters) : Type 0 where
 
 -- as it starts
 pub on-time-started : {image : List ℕ} → Whole image → (c : Counters) → mayStart image ≡ true
-    → OnTime (delay image) (period image) 0 (started image) (startedCounters image c)
+    → OnTime (delay (started image)) (period (started image)) 0 (started image) (startedCounters image c)
 unfolding startedCounters minuteAt waitAt
 on-time-started {image} w c m =
-    let same = settings-started image in
-    let none : 0 - 60 * delay image ≡ 0 = omega arith in
+    let none : 0 - 60 * delay (started image) ≡ 0 = omega arith in
     rw m
     (record {
       running = starts w m .mip;
-      rated = λ e. may-start image m .rate (sym (same .rate) ∙ e);
-      every = period-same same;
-      left = word-left 0x0216 3 (leaves-started image) tt ∙ omega arith;
-      minute = either (λ (n : ℕ). 0 ≡ n) (ltb 0 (60 * delay image)) (λ e. refl) (λ e. refl);
-      wait = rw (none, zero-mod (period image), wait-none (period image));
+      rated = λ e. may-start image m .rate (sym (settings-started image .rate) ∙ e);
+      every = refl;
+      left = omega arith;
+      minute = choice (λ (n : ℕ). 0 ≡ n) (ltb 0 (60 * delay (started image))) refl refl;
+      wait = rw (none, zero-mod (period (started image)), wait-none (period (started image)));
     })
+
+-- a change that leaves settings, delay and MIP leaves it on time
+pub on-time-left : {d p t : ℕ} {runs : List Run} {flags : List Flag} {before after : List ℕ} {c : Counters} → Leaves runs flags before after
+    → SameSettings before after
+    → T (free (touched runs flags) 0x0216 3)
+    → T (free runs 0x0215 1)
+    → T (spares flags 0x0215 1)
+    → OnTime d p t before c
+    → OnTime d p t after c
+on-time-left l same delay byte mip o =
+    record {
+      running = l .bits 0x0215 1 byte mip tt ∙ o .running;
+      rated = λ e. o .rated (sym (same .rate) ∙ e);
+      every = period-same same ∙ o .every;
+      left = word-left 0x0216 3 l delay ∙ o .left;
+      minute = o .minute;
+      wait = o .wait;
+    }
 
 module _ {d p t : ℕ} {image : List ℕ} {c : Counters} (o : OnTime d p t image c) where
   period-positive : 0 < p
   period-positive = rw (← (o .every)) (period-pos image (o .rated))
 
-  delaying-time : delaying image ≡ ltb t (60 * d)
-  unfolding delaying
-  delaying-time =
-      rw (o .running, o .left)
+  -- the delay is over exactly when its minutes are
+  delay-over : eqb (delay image) 0 ≡ not (ltb t (60 * d))
+  delay-over =
+      rw (o .left)
       (dite (decLt t (60 * d)) (λ lt. rw (lt-ltb t (60 * d) lt, ne-eqb (d - t / 60) 0 (omega arith)))
       (λ ge.
       let past : 60 * d ≤ t = omega arith in
       let none : d - t / 60 ≡ 0 = omega arith in
       rw (le-ltb t (60 * d) past, none)))
 
+  delaying-time : delaying image ≡ ltb t (60 * d)
+  unfolding delaying
+  delaying-time = rw (o .running, delay-over) (Bool·not-not (ltb t (60 * d)))
+
   converting-time : converting image ≡ not (ltb t (60 * d))
   unfolding converting
-  converting-time =
-      rw (o .running, o .left, ne-eqb (rate image) 0 (o .rated))
-      (dite (decLt t (60 * d)) (λ lt. rw (lt-ltb t (60 * d) lt, ne-eqb (d - t / 60) 0 (omega arith)))
-      (λ ge.
-      let past : 60 * d ≤ t = omega arith in
-      let none : d - t / 60 ≡ 0 = omega arith in
-      rw (le-ltb t (60 * d) past, none)))
+  converting-time = rw (o .running, delay-over, ne-eqb (rate image) 0 (o .rated), and-true)
 
   -- tick t + 1 is a conversion time by its number alone
   pub due-time : due image c ≡ isTime d p (suc t)

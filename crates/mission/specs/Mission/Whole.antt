@@ -6,11 +6,12 @@ use Prim.Native.Nat.{ℕ, _<_}
 use native.Mathlib.Omega.{arith}
 use lib.Dec.{ltb, eqb}
 use lib.ListN.{length, set, length-set}
-use Rattle.bits.specs.Choose.{if_then_else_}
+use Rattle.bits.specs.Bytes.{Bytes, bytes-set}
+use Rattle.bits.specs.Choose.{if_then_else_, choice}
 use Rattle.calendar.specs.Calendar.Named.{Named, named-next}
 use Rattle.calendar.specs.declared.Clock.{Clock}
 use Rattle.image.specs.Fields.{putWord, putFlag}
-use Rattle.image.specs.Fields.Laws.{Bytes, bytes-set, length-putWord, bytes-putWord, length-putFlag, bytes-putFlag}
+use Rattle.image.specs.Fields.Laws.{length-putWord, bytes-putWord, length-putFlag, bytes-putFlag}
 use Rattle.image.specs.Registers.{eosc, tlfs, mip, missionSamples, deviceSamples}
 use Rattle.mission.specs.Clock.{clockOf, putBytes, putClock}
 use Rattle.mission.specs.Clock.Named.{clock-named}
@@ -24,8 +25,7 @@ pub record Whole (image : List ℕ) : Type 0 where
 -- ---- puts
 
 whole-choice : (t : Bool) {a b : List ℕ} → Whole a → Whole b → Whole (if t then a else b)
-whole-choice true p q = p
-whole-choice false p q = q
+whole-choice t p q = choice Whole t p q
 
 pub whole-set : {image : List ℕ} (at b : ℕ) → Whole image → b < 256 → Whole (set image at b)
 whole-set {image} at b w small =

@@ -1,13 +1,13 @@
 -- The settings of a mission, in the image that Start leaves. Assumes nothing.
 use mathlib.Core.Path.{_≡_, refl}
-use mathlib.Core.Bool.{Bool, true, false}
 use mathlib.Core.List.{List}
-use Prim.Native.Nat.{ℕ, _+_, _*_, _/_, _%_, _≤_, _<_}
+use Prim.Native.Nat.{ℕ, _+_, _%_, _≤_, _<_}
 use native.Mathlib.Omega.{arith}
-use Rattle.bits.specs.Choose.{if_then_else_}
+use Rattle.bits.specs.Choose.{choice, choices}
 use Rattle.image.specs.Registers
 use Rattle.mission.specs.Clock.{clockOf}
 use Rattle.mission.specs.Mission
+use Rattle.mission.specs.Mission.Times.{isTime}
 use Rattle.promises.specs.Demand2.Counts.{places-apart}
 use Rattle.promises.specs.History
 use Rattle.promises.specs.History.{Settings}
@@ -31,9 +31,9 @@ settingsOf image =
 -- ---- what the tag reads off the image is what the history reads off the settings
 
 module _ (image : List ℕ) where
-  pub period-of : History.period (settingsOf image) ≡ Mission.period image
-  unfolding settingsOf History.period Mission.period Mission.periodOf
-  period-of = refl
+  pub isTime-of : (t : ℕ) → History.isTime (settingsOf image) t ≡ isTime (Registers.delay image) (Mission.period image) t
+  unfolding settingsOf History.isTime History.period isTime Mission.period Mission.periodOf
+  isTime-of t = refl
 
   pub places-of : History.places (settingsOf image) ≡ Mission.places image
   unfolding settingsOf History.places Mission.places
@@ -45,27 +45,15 @@ module _ (image : List ℕ) where
 
   pub kept-of : (reading : ℕ) → History.kept (settingsOf image) reading ≡ Mission.resolved image reading
   unfolding settingsOf History.kept Mission.resolved
-  kept-of reading = by-format (Registers.tlfs image)
-    where
-      by-format : (t : Bool) → (if t then reading else 8 * (reading / 8)) ≡ if t then reading else reading / 8 * 8
-      by-format true = refl
-      by-format false = omega arith
+  kept-of reading = choices (λ (n m : ℕ). n ≡ m) (Registers.tlfs image) refl (omega arith)
 
   pub places-pos : 0 < Mission.places image
   unfolding Mission.places
-  places-pos = by-format (Registers.tlfs image)
-    where
-      by-format : (t : Bool) → 0 < (if t then 4096 else 8192)
-      by-format true = omega arith
-      by-format false = omega arith
+  places-pos = choice (λ (n : ℕ). 0 < n) (Registers.tlfs image) (omega arith) (omega arith)
 
   pub places-le : Mission.places image ≤ 8192
   unfolding Mission.places
-  places-le = by-format (Registers.tlfs image)
-    where
-      by-format : (t : Bool) → (if t then 4096 else 8192) ≤ 8192
-      by-format true = omega arith
-      by-format false = omega arith
+  places-le = choice (λ (n : ℕ). n ≤ 8192) (Registers.tlfs image) (omega arith) (omega arith)
 
   -- two entries that are less than the log apart lie at different places
   pub place-apart : (k n : ℕ) → k < n → n < k + Mission.places image → k % Mission.places image ≡ n % Mission.places image → ⊥

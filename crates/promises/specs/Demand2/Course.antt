@@ -1,44 +1,44 @@
 -- A mission from its Start on, over any events that spare its registers: what its image holds at the end is its history.
 -- Assumes nothing.
 use mathlib.Core.Path.{_≡_, refl, sym, ap, _∙_}
-use mathlib.Core.Bool.{Bool, true, false, not, _&&_, and-eq-true-iff, false≢true}
+use mathlib.Core.Bool.{Bool, true, false, _&&_, false≢true}
 use mathlib.Core.List.{List, [], _∷_, _++_, append-nil}
 use mathlib.Core.Logic.{_⊎_, dite}
-use Prim.Native.Nat.{ℕ, _*_, _≤_, _<_}
-use native.Mathlib.Nat.{zero-mod, zero-sub, not-suc-le-zero}
+use Prim.Native.Nat.{ℕ, _≤_, _<_}
+use native.Mathlib.Nat.{zero-sub, not-suc-le-zero}
 use native.Mathlib.Decide.{decLt}
 use native.Mathlib.Omega.{arith}
-use borrow.Author.Tests.{eqb-false, not-true}
-use lib.Dec.{eqb}
 use lib.ListN.{take, replicate}
-use lib.Seq.{take-nil, drop-nil, append-snoc}
+use lib.Seq.{take-nil, drop-nil, append-snoc, getD-set-other}
 use Rattle.answer.specs.Answer.{answerNumber}
 use Rattle.answer.specs.declared.Answer.{Answer}
 use Rattle.bits.specs.Bits.{digit}
-use Rattle.bits.specs.Choose.{if_then_else_}
+use Rattle.bits.specs.Bits.Laws.{bit-past}
+use Rattle.bits.specs.Bytes.{bytes-set, byte-blank, bytes-blank}
+use Rattle.bits.specs.Choose.{if_then_else_, choice}
 use Rattle.calendar.specs.Calendar.{clockAfter}
 use Rattle.exchange.specs.Exchange as exchange
-use Rattle.image.specs.Fields.Laws.{bytes-set, byte-blank}
+use Rattle.exchange.specs.Exchange.Pad.{PaddedIn, exchange-padded, reset-padded, new-padded}
+use Rattle.image.specs.Fields.{flagAt}
+use Rattle.image.specs.Leaves.{word-left}
 use Rattle.image.specs.Registers
 use Rattle.memory.specs.declared.Deed.{Deed}
 use Rattle.mission.specs.Clock.Laws.{stamp-kept}
-use Rattle.mission.specs.Leaves.{word-left}
 use Rattle.mission.specs.Mission
-use Rattle.mission.specs.Mission.Commands.{starts}
+use Rattle.mission.specs.Mission.Commands.{starts, may-start}
 use Rattle.mission.specs.Mission.Frames.{leaves-started}
+use Rattle.mission.specs.Mission.Fresh.{Fresh, fresh-cleared, fresh-stopped, fresh-forced, fresh-ticked, fresh-started, fresh-stored}
 use Rattle.mission.specs.Mission.Settings.{settings-same, settings-started}
+use Rattle.mission.specs.Mission.Times.{on-time-started}
 use Rattle.mission.specs.Mission.Whole.{Whole, whole-ticked, whole-cleared, whole-started, whole-stopped, whole-forced}
 use Rattle.mission.specs.declared.Counters.{Counters}
 use Rattle.tag.specs.Tag.{performed, performedCounters, newImage, slotted, resetTag, tickTag}
 use Rattle.tag.specs.Tag.Laws.{new-good, new-made, length-new}
-use Rattle.promises.specs.Demand2.Blank.{Clean, clean-cleared, clean-stopped, clean-forced, clean-ticked, clean-started, clean-stored, clean-new}
 use Rattle.promises.specs.Demand2.Deeds.{whole-stored, holds-performed, Stopped, stopped-stop, stopped-ticked, stopped-performed}
 use Rattle.promises.specs.Demand2.Events.{slotAt, deedAt, Starts, Spares, isStop, missionTicks}
 use Rattle.promises.specs.Demand2.Holds.{Listed, Holds}
-use Rattle.promises.specs.Demand2.Pad.{PaddedIn, exchange-padded, reset-padded, new-padded}
 use Rattle.promises.specs.Demand2.AtStart.{settingsOf}
 use Rattle.promises.specs.Demand2.Ticks.{holds-ticked}
-use Rattle.promises.specs.Demand2.Wait.{waitOf, waitAt}
 use Rattle.promises.specs.History
 use Rattle.promises.specs.History.{Settings, Conversion}
 use Rattle.promises.specs.Runs.{State, Event, after, Accepts, run, Reached, Always}
@@ -50,65 +50,54 @@ pub record Solid (s : State) : Type 0 where
   pub sound : Sound s
   pub whole : Whole (s .image)
   pub padded : PaddedIn (s .tag .exchange)
-  pub clean : Clean (s .image)
+  pub fresh : Fresh (s .image)
 
 -- ---- what each event leaves
 
 module _ {s : State} (solid : Solid s) where
-  pub tick-image : (reading : ℕ) → reading ≤ 2047 → after s (Event.tick reading) .image ≡ Mission.ticked (s .image) (s .tag .counters) reading
+  tick-leaves : (reading : ℕ) → reading ≤ 2047 → after s (Event.tick reading)
+      ≡ record {
+        image = Mission.ticked (s .image) (s .tag .counters) reading;
+        tag = record { code = s .tag .code; counters = Mission.tickedCounters (s .image) (s .tag .counters) reading; exchange = s .tag .exchange };
+      }
   unfolding after tickTag
-  tick-image reading small = rw (tick-happens (solid .sound) reading small)
+  tick-leaves reading small = rw (tick-happens (solid .sound) reading small)
 
-  pub tick-counters : (reading : ℕ) → reading ≤ 2047
-      → after s (Event.tick reading) .tag .counters ≡ Mission.tickedCounters (s .image) (s .tag .counters) reading
-  unfolding after tickTag
-  tick-counters reading small = rw (tick-happens (solid .sound) reading small)
-
-  tick-exchange : (reading : ℕ) → reading ≤ 2047 → after s (Event.tick reading) .tag .exchange ≡ s .tag .exchange
-  unfolding after tickTag
-  tick-exchange reading small = rw (tick-happens (solid .sound) reading small)
-
-  pub reset-image : after s Event.reset .image ≡ s .image
+  reset-leaves : after s Event.reset
+      ≡ record {
+        image = s .image;
+        tag = record { code = s .tag .code; counters = s .tag .counters; exchange = exchange.afterReset (s .tag .exchange) };
+      }
   unfolding after resetTag
-  reset-image = rw (reset-happens (solid .sound))
+  reset-leaves = rw (reset-happens (solid .sound))
 
-  pub reset-counters : after s Event.reset .tag .counters ≡ s .tag .counters
-  unfolding after resetTag
-  reset-counters = rw (reset-happens (solid .sound))
-
-  reset-exchange : after s Event.reset .tag .exchange ≡ exchange.afterReset (s .tag .exchange)
-  unfolding after resetTag
-  reset-exchange = rw (reset-happens (solid .sound))
-
-  pub slot-image : (bit : Bool)
-      → after s (Event.slot bit) .image ≡ performed (slotAt s bit .deed) (slotAt s bit .exchange) (s .tag .counters) (s .image)
+  slot-leaves : (bit : Bool) → after s (Event.slot bit)
+      ≡ record {
+        image = performed (slotAt s bit .deed) (slotAt s bit .exchange) (s .tag .counters) (s .image);
+        tag = record {
+          code = s .tag .code;
+          counters = performedCounters (slotAt s bit .deed) (s .tag .counters) (s .image);
+          exchange = slotAt s bit .exchange;
+        };
+      }
   unfolding after slotted slotAt
-  slot-image bit = rw (slot-happens (solid .sound) bit)
-
-  pub slot-counters : (bit : Bool)
-      → after s (Event.slot bit) .tag .counters ≡ performedCounters (slotAt s bit .deed) (s .tag .counters) (s .image)
-  unfolding after slotted slotAt
-  slot-counters bit = rw (slot-happens (solid .sound) bit)
-
-  pub slot-exchange : (bit : Bool) → after s (Event.slot bit) .tag .exchange ≡ slotAt s bit .exchange
-  unfolding after slotted slotAt
-  slot-exchange bit = rw (slot-happens (solid .sound) bit)
+  slot-leaves bit = rw (slot-happens (solid .sound) bit)
 
 -- ---- every event keeps a solid state
 
 performed-whole : (deed : Deed) {s : State} → Solid s → (bit : Bool)
     → Whole (performed deed (slotAt s bit .exchange) (s .tag .counters) (s .image))
-    × Clean (performed deed (slotAt s bit .exchange) (s .tag .counters) (s .image))
+    × Fresh (performed deed (slotAt s bit .exchange) (s .tag .counters) (s .image))
 unfolding performed slotAt
-performed-whole Deed.Nothing solid bit = (solid .whole, solid .clean)
+performed-whole Deed.Nothing solid bit = (solid .whole, solid .fresh)
 performed-whole Deed.Store {s} solid bit =
     let x = slotAt s bit .exchange in
     let p = exchange-padded (s .tag .exchange) bit _ (solid .padded) in
-    (whole-stored (x .held .pad) (x .held .ta) (p .size) (p .bytes) (solid .whole), clean-stored (solid .whole) (x .held .pad) (x .held .ta) (p .size) (solid .clean))
-performed-whole Deed.Clear solid bit = (whole-cleared (solid .whole), clean-cleared (solid .whole) (solid .clean))
-performed-whole Deed.Start solid bit = (whole-started (solid .whole), clean-started (solid .whole) (solid .clean))
-performed-whole Deed.Stop solid bit = (whole-stopped (solid .whole), clean-stopped (solid .whole) (solid .clean))
-performed-whole Deed.Convert {s} solid bit = (whole-forced (s .tag .counters) (solid .whole), clean-forced (s .tag .counters) (solid .clean))
+    (whole-stored (x .held .pad) (x .held .ta) (p .size) (p .bytes) (solid .whole), fresh-stored (solid .fresh) (solid .whole) (x .held .pad) (x .held .ta) (p .size))
+performed-whole Deed.Clear solid bit = (whole-cleared (solid .whole), fresh-cleared (solid .fresh) (solid .whole))
+performed-whole Deed.Start solid bit = (whole-started (solid .whole), fresh-started (solid .fresh) (solid .whole))
+performed-whole Deed.Stop solid bit = (whole-stopped (solid .whole), fresh-stopped (solid .fresh) (solid .whole))
+performed-whole Deed.Convert {s} solid bit = (whole-forced (s .tag .counters) (solid .whole), fresh-forced (solid .fresh) (s .tag .counters))
 
 slot-padded : {s : State} → Solid s → (bit : Bool) → PaddedIn (slotAt s bit .exchange)
 unfolding slotAt
@@ -119,86 +108,64 @@ solid-after {s} solid (Event.slot bit) valid =
     let both = performed-whole (slotAt s bit .deed) solid bit in
     record {
       sound = sound-after (Event.slot bit) (solid .sound);
-      whole = rw (slot-image solid bit) (both .0);
-      padded = rw (slot-exchange solid bit) (slot-padded solid bit);
-      clean = rw (slot-image solid bit) (both .1);
+      whole = rw (slot-leaves solid bit) (both .0);
+      padded = rw (slot-leaves solid bit) (slot-padded solid bit);
+      fresh = rw (slot-leaves solid bit) (both .1);
     }
 solid-after {s} solid Event.reset valid =
     record {
       sound = sound-after Event.reset (solid .sound);
-      whole = rw (reset-image solid) (solid .whole);
-      padded = rw (reset-exchange solid) (reset-padded (s .tag .exchange) (solid .padded));
-      clean = rw (reset-image solid) (solid .clean);
+      whole = rw (reset-leaves solid) (solid .whole);
+      padded = rw (reset-leaves solid) (reset-padded (s .tag .exchange) (solid .padded));
+      fresh = rw (reset-leaves solid) (solid .fresh);
     }
 solid-after {s} solid (Event.tick reading) valid =
     record {
       sound = sound-after (Event.tick reading) (solid .sound);
-      whole = rw (tick-image solid reading valid) (whole-ticked (s .tag .counters) reading (solid .whole));
-      padded = rw (tick-exchange solid reading valid) (solid .padded);
-      clean = rw (tick-image solid reading valid) (clean-ticked (s .tag .counters) reading (solid .clean));
+      whole = rw (tick-leaves solid reading valid) (whole-ticked (s .tag .counters) reading (solid .whole));
+      padded = rw (tick-leaves solid reading valid) (solid .padded);
+      fresh = rw (tick-leaves solid reading valid) (fresh-ticked (solid .fresh) (s .tag .counters) reading);
     }
 
 -- ---- Start
 
 nothing-yet : (s : Settings) → History.history s [] ≡ []
 unfolding History.history History.toLog History.conversionsFrom History.fromAlarm
-nothing-yet s = by-suta (s .suta)
-  where
-    by-suta : (b : Bool) → take (History.most s) (if_then_else_ {A = List Conversion} b [] []) ≡ []
-    by-suta true = take-nil (History.most s)
-    by-suta false = take-nil (History.most s)
+nothing-yet s =
+    choice (λ (l : List Conversion). take (History.most s) l ≡ []) (s .suta) (take-nil (History.most s)) (take-nil (History.most s))
 
 no-stamp : (s : Settings) → History.stamp s [] ≡ History.zeros
 unfolding History.stamp History.clockAt
 no-stamp s = rw (drop-nil {A = Conversion} (digit (s .suta)))
 
--- what Start asks of the image
-record May (image : List ℕ) : Type 0 where
-  pub memclr : Registers.memclr image ≡ true
-  pub etl : Registers.etl image ≡ true
-  pub rated : Registers.rate image ≡ 0 → ⊥
-
-may-start : (image : List ℕ) → Mission.mayStart image ≡ true → May image
-unfolding Mission.mayStart
-may-start image e =
-    let three = and-eq-true-iff (Registers.memclr image && not (Registers.mip image) && Registers.etl image) (not (eqb (Registers.rate image) 0)) .0 e in
-    let two = and-eq-true-iff (Registers.memclr image && not (Registers.mip image)) (Registers.etl image) .0 (three .0) in
-    let one = and-eq-true-iff (Registers.memclr image) (not (Registers.mip image)) .0 (two .0) in
-    record { memclr = one .0; etl = two .1; rated = eqb-false (Registers.rate image) 0 (not-true (eqb (Registers.rate image) 0) (three .1)) }
-
-pub holds-started : {image : List ℕ} → Whole image → Clean image → Mission.mayStart image ≡ true → (c : Counters)
+pub holds-started : {image : List ℕ} → Whole image → Fresh image → Mission.mayStart image ≡ true → (c : Counters)
     → Holds (Mission.started image) [] (Mission.started image) (Mission.startedCounters image c)
-unfolding Mission.startedCounters Mission.waiting waitOf waitAt clockAfter
+unfolding Mission.waiting clockAfter
 holds-started {image} w b m c =
     let may = may-start image m in
     let before = b (may .memclr) in
     let l = leaves-started image in
     let same = settings-started image in
     let began = starts w m in
-    rw m
-    (record {
+    record {
       listed = rw (nothing-yet (settingsOf (Mission.started image)))
           (record {
             whole = whole-started w;
             memclr = began .memclr;
             settings = settings-same;
-            samples = word-left 0x0220 3 l tt ∙ before .samples ∙ sym (zero-sub (digit (Registers.suta (Mission.started image))));
+            samples = word-left 0x0220 3 l tt ∙ before .missionSamples ∙ sym (zero-sub (digit (Registers.suta (Mission.started image))));
             flags = λ s. rw (l .bits 0x0214 1 tt tt tt ∙ before .thf, l .bits 0x0214 0 tt tt tt ∙ before .tlf);
             stamp = stamp-kept (l .keeps) tt ∙ before .stamp ∙ sym (no-stamp (settingsOf (Mission.started image)));
             entries = λ k lt ge. absurd (not-suc-le-zero lt);
           });
       running = rw (nothing-yet (settingsOf (Mission.started image)))
           (record {
-            mip = began .mip;
+            time = on-time-started w c m;
             eosc = began .eosc;
-            rated = λ e. may .rated (sym (same .rate) ∙ e);
             clock = refl;
-            delay = omega arith;
-            minute = λ h. omega arith;
-            wait = rw (zero-sub (60 * Registers.delay (Mission.started image)), zero-mod (Mission.period (Mission.started image)));
             waiting = rw (began .wfta, same .suta) (twice (Registers.suta image));
           });
-    })
+    }
   where
     twice : (b : Bool) → (b && b) ≡ (b && true)
     twice true = refl
@@ -218,9 +185,9 @@ unfolding deedAt performed performedCounters
 starts-after {s} (Event.slot bit) solid starts =
     record {
       solid = solid-after solid (Event.slot bit) tt;
-      holds = rw (slot-image solid bit, slot-counters solid bit, starts .command)
-          (holds-started (solid .whole) (solid .clean) (starts .may) (s .tag .counters));
-      etl = rw (slot-image solid bit, starts .command) (etl-started (s .image) (starts .may));
+      holds = rw (slot-leaves solid bit, starts .command)
+          (holds-started (solid .whole) (solid .fresh) (starts .may) (s .tag .counters));
+      etl = rw (slot-leaves solid bit, starts .command) (etl-started (s .image) (starts .may));
     }
 starts-after Event.reset solid starts = let command = starts .command in absurd (let no : _≡_ {A = ℕ} 0 1 = cc in omega arith)
 starts-after (Event.tick reading) solid starts = let command = starts .command in absurd (let no : _≡_ {A = ℕ} 0 1 = cc in omega arith)
@@ -231,7 +198,7 @@ starts-after (Event.tick reading) solid starts = let command = starts .command i
 slot-stores : {s : State} → Solid s → (bit : Bool) → Spares s (Event.slot bit)
     → slotAt s bit .deed ≡ Deed.Store → (slotAt s bit .exchange .held .ta < 0x0200) ⊎ (0x0240 ≤ slotAt s bit .exchange .held .ta)
 unfolding deedAt
-slot-stores solid bit spares e = rw (slot-exchange solid bit) at (spares .store e)
+slot-stores solid bit spares e = rw (slot-leaves solid bit) at (spares .store e)
 
 slot-clears : {s : State} (bit : Bool) → Spares s (Event.slot bit) → slotAt s bit .deed ≡ Deed.Clear → Registers.mip (s .image) ≡ true
 unfolding deedAt
@@ -240,11 +207,11 @@ slot-clears bit spares = spares .clear
 stopped-after : {start : List ℕ} {es : List Conversion} {s : State} → Solid s → (e : Event) → Spares s e → Stopped start es (s .image)
     → Stopped start es (after s e .image)
 stopped-after {s = s} solid (Event.slot bit) spares h =
-    rw (slot-image solid bit)
+    rw (slot-leaves solid bit)
     (stopped-performed (s .tag .counters) (slotAt s bit .exchange) (slot-padded solid bit) (slotAt s bit .deed) (slot-stores solid bit spares) (slot-clears bit spares) h)
-stopped-after solid Event.reset spares h = rw (reset-image solid) h
+stopped-after solid Event.reset spares h = rw (reset-leaves solid) h
 stopped-after {s = s} solid (Event.tick reading) spares h =
-    rw (tick-image solid reading (spares .valid)) (stopped-ticked (s .tag .counters) reading h)
+    rw (tick-leaves solid reading (spares .valid)) (stopped-ticked (s .tag .counters) reading h)
 
 -- after a Stop what a listing goes by stays
 stopped-run : {start : List ℕ} {es : List Conversion} {s : State} (events : List Event) → Solid s → Stopped start es (s .image)
@@ -268,7 +235,7 @@ stop-after : {start readings : List ℕ} {s : State} → Solid s → (bit : Bool
     → Holds start readings (s .image) (s .tag .counters)
     → Stopped start (History.history (settingsOf start) readings) (after s (Event.slot bit) .image)
 unfolding performed
-stop-after {s = s} solid bit e h = rw (slot-image solid bit, stop-deed (slotAt s bit .deed) e) (stopped-stop (h .listed))
+stop-after {s = s} solid bit e h = rw (slot-leaves solid bit, stop-deed (slotAt s bit .deed) e) (stopped-stop (h .listed))
 
 pub solid-run : {s : State} (events : List Event) → Solid s → Always Spares s events → Solid (run s events .state)
 unfolding run Always
@@ -285,14 +252,14 @@ listed-run {readings = readings} {s = s} (Event.tick reading ∷ events) solid h
     let small = always .0 .valid in
     rw (← append-snoc readings reading (missionTicks (after s (Event.tick reading)) events))
     (listed-run {readings = readings ++ reading ∷ []} events (solid-after solid (Event.tick reading) small)
-    (rw (tick-image solid reading small, tick-counters solid reading small) (holds-ticked h reading small))
+    (rw (tick-leaves solid reading small) (holds-ticked h reading small))
     (always .1))
 listed-run {readings = readings} (Event.reset ∷ events) solid h always =
-    listed-run {readings = readings} events (solid-after solid Event.reset tt) (rw (reset-image solid, reset-counters solid) h) (always .1)
+    listed-run {readings = readings} events (solid-after solid Event.reset tt) (rw (reset-leaves solid) h) (always .1)
 listed-run {start} {readings} {s} (Event.slot bit ∷ events) solid h always =
     by-deed (isStop (slotAt s bit .deed)) refl
     (λ going. listed-run {readings = readings} events (solid-after solid (Event.slot bit) tt)
-    (rw (slot-image solid bit, slot-counters solid bit)
+    (rw (slot-leaves solid bit)
     (holds-performed (slotAt s bit .exchange) (slot-padded solid bit) (slotAt s bit .deed) going (slot-stores solid bit (always .0)) h))
     (always .1))
   where
@@ -312,7 +279,14 @@ listed-run {start} {readings} {s} (Event.slot bit ∷ events) solid h always =
 whole-new : Whole (newImage 8832)
 unfolding newImage
 whole-new =
-    record { size = length-new 8832; bytes = bytes-set (replicate 8832 0) 0x0214 0x80 (λ k. rw (byte-blank 8832 k) (omega arith)) (omega arith) }
+    record { size = length-new 8832; bytes = bytes-set (replicate 8832 0) 0x0214 0x80 (bytes-blank 8832) (omega arith) }
+
+-- a new tag has MEMCLR 0
+fresh-new : Fresh (newImage 8832)
+unfolding newImage flagAt
+fresh-new e =
+    let zero = getD-set-other {A = ℕ} (replicate 8832 0) 0x0214 0x0215 0x80 0 (omega arith) ∙ byte-blank 8832 0x0215 in
+    absurd (false≢true (sym (rw zero (bit-past 0 (omega arith) (omega arith))) ∙ e))
 
 accepted-valid : {s : State} → Sound s → (e : Event) → Accepts s e → Valid e
 accepted-valid sound (Event.slot bit) a = tt
@@ -333,6 +307,6 @@ reached-solid (Reached.new image number code e) =
     let made = new-made image number code (good .0) (good .1) (good .2) in
     let sound = reached-sound (Reached.new image number code e) in
     rw made
-    (record { sound = rw made at sound; whole = whole-new; padded = new-padded number; clean = clean-new })
+    (record { sound = rw made at sound; whole = whole-new; padded = new-padded number; fresh = fresh-new })
 reached-solid (Reached.event e before accepted) =
     solid-after (reached-solid before) e (accepted-valid (reached-sound before) e accepted)

@@ -1,67 +1,33 @@
 -- What a slot's deed leaves of a mission, while it runs and after it. Assumes nothing.
-use mathlib.Core.Path.{_≡_, refl, sym, ap, _∙_}
-use mathlib.Core.Bool.{true, false, _&&_, false≢true}
-use mathlib.Core.List.{List, [], _∷_}
-use mathlib.Core.Logic.{_⊎_, inl, inr, ⊎-elim, dite}
-use Prim.Native.Nat.{ℕ, _+_, _-_, _%_, _≤_, _<_}
-use native.Mathlib.Decide.{decLt}
-use native.Mathlib.Omega.{arith}
-use lib.Dec.{T}
-use lib.Ieee.Fits.{and-l, and-r, and-i}
+use mathlib.Core.Path.{_≡_, refl, sym, _∙_}
+use mathlib.Core.Bool.{true, false, false≢true}
+use mathlib.Core.List.{List}
+use mathlib.Core.Logic.{_⊎_}
+use Prim.Native.Nat.{ℕ, _≤_, _<_}
 use lib.ListN.{length, getD}
+use Rattle.exchange.specs.Exchange.Pad.{PaddedIn}
 use Rattle.exchange.specs.declared.Exchange.{Exchange}
-use Rattle.image.specs.Fields.{apart}
-use Rattle.image.specs.Fields.Laws.{apart-cases, apart-of}
-use Rattle.image.specs.Keeps.{free}
+use Rattle.image.specs.Leaves.{leaves-keeps}
 use Rattle.image.specs.Registers
 use Rattle.image.specs.Stored.{storedPage}
-use Rattle.image.specs.Stored.Laws.{keeps-storedPage, storedPage-high, bytes-storedPage}
+use Rattle.image.specs.Stored.Laws.{keeps-storedPage, bytes-storedPage, keeps-apart}
 use Rattle.memory.specs.declared.Deed.{Deed}
 use Rattle.mission.specs.Clock.Laws.{clock-kept}
-use Rattle.mission.specs.Leaves.{Leaves, leaves-keeps, word-left}
 use Rattle.mission.specs.Mission
 use Rattle.mission.specs.Mission.Commands.{cleared-mission, started-not, mip-stopped, forced-mission}
 use Rattle.mission.specs.Mission.Converts.{waiting-same}
 use Rattle.mission.specs.Mission.Frames.{leaves-clocked, leaves-stopped, leaves-forced}
 use Rattle.mission.specs.Mission.Settings.{settings-left}
 use Rattle.mission.specs.Mission.Ticks.{ticked-idle}
+use Rattle.mission.specs.Mission.Times.{on-time-left}
 use Rattle.mission.specs.Mission.Whole.{Whole, whole-clocked, whole-stopped, whole-forced}
 use Rattle.mission.specs.declared.Counters.{Counters}
 use Rattle.tag.specs.Tag.{performed, performedCounters}
 use Rattle.promises.specs.Demand2.Events.{isStop}
 use Rattle.promises.specs.Demand2.Holds.{Listed, Holds, listed-left}
-use Rattle.promises.specs.Demand2.Pad.{PaddedIn}
 use Rattle.promises.specs.History.{Conversion}
 
 -- ---- Copy
-
--- one outside the registers leaves all but user memory and calibration
-pub leaves-stored : (image pad : List ℕ) (a : ℕ) → length pad ≡ 32 → (a < 0x0200) ⊎ (0x0240 ≤ a)
-    → Leaves ((0, 512) ∷ (576, 64) ∷ []) [] image (storedPage image pad a)
-leaves-stored image pad a whole out = leaves-keeps (record { lengths = keeps-storedPage image pad a whole .lengths; bytes = same })
-  where
-    outside : (k : ℕ) → T (apart 0 512 k 1) → T (apart 576 64 k 1) → a < 0x0280 → (a + (32 - a % 32) ≤ k) ⊎ (k + 1 ≤ a)
-    outside k user calibration low =
-        ⊎-elim
-        (λ l.
-        ⊎-elim (λ below. inl (omega arith))
-        (λ above. ⊎-elim (λ m. inl (omega arith)) (λ m. inr (omega arith)) (apart-cases 576 64 k 1 calibration))
-        out)
-        (λ l. absurd (omega arith))
-        (apart-cases 0 512 k 1 user)
-
-    same : (k : ℕ) → T (free ((0, 512) ∷ (576, 64) ∷ []) k 1) → getD (storedPage image pad a) k 0 ≡ getD image k 0
-    same k t =
-        dite (decLt a 0x0280)
-        (λ low.
-        keeps-storedPage image pad a whole .bytes k
-        (and-i (apart a (32 - a % 32) k 1) true
-        (apart-of a (32 - a % 32) k 1
-        (outside k (and-l (apart 0 512 k 1) (apart 576 64 k 1 && true) t)
-        (and-l (apart 576 64 k 1) true (and-r (apart 0 512 k 1) (apart 576 64 k 1 && true) t))
-        low))
-        tt))
-        (λ high. ap (λ (l : List ℕ). getD l k 0) (storedPage-high image pad a (omega arith)))
 
 pub whole-stored : {image : List ℕ} (pad : List ℕ) (a : ℕ) → length pad ≡ 32 → ((k : ℕ) → getD pad k 0 < 256) → Whole image → Whole (storedPage image pad a)
 whole-stored {image} pad a whole bytes w =
@@ -82,29 +48,25 @@ module _ {start readings image : List ℕ} {c : Counters} (x : Exchange) (padded
   unfolding performed performedCounters isStop Mission.startedCounters
   holds-performed Deed.Nothing n s h = h
   holds-performed Deed.Store n s h =
-      let l = leaves-stored image (x .held .pad) (x .held .ta) (padded .size) (s refl) in
+      let l = leaves-keeps (keeps-apart image (x .held .pad) (x .held .ta) (padded .size) (s refl)) in
       let same = settings-left l tt tt tt tt tt in
       let p = h .listed in
       let q = h .running in
       record {
         listed = listed-left l same (whole-stored (x .held .pad) (x .held .ta) (padded .size) (padded .bytes) (p .whole)) tt tt tt tt tt tt tt tt tt p;
         running = record {
-          mip = l .bits 0x0215 1 tt tt tt ∙ q .mip;
+          time = on-time-left l same tt tt tt (q .time);
           eosc = l .bits 0x0212 0 tt tt tt ∙ q .eosc;
-          rated = q .rated;
           clock = clock-kept (l .keeps) tt ∙ q .clock;
-          delay = word-left 0x0216 3 l tt ∙ q .delay;
-          minute = q .minute;
-          wait = q .wait;
           waiting = waiting-same same (l .bits 0x0215 4 tt tt tt) ∙ q .waiting;
         };
       }
-  holds-performed Deed.Clear n s h = rw (cleared-mission image (h .running .mip)) h
+  holds-performed Deed.Clear n s h = rw (cleared-mission image (h .running .time .running)) h
   holds-performed Deed.Start n s h =
       let no = shut-start image (h .listed .memclr) in
       rw (started-not image no, no) h
   holds-performed Deed.Stop n s h = absurd (false≢true (sym n))
-  holds-performed Deed.Convert n s h = rw (forced-mission image c (h .running .mip)) h
+  holds-performed Deed.Convert n s h = rw (forced-mission image c (h .running .time .running)) h
 
 -- ---- after it
 
@@ -138,7 +100,7 @@ module _ {start image : List ℕ} {es : List Conversion} (c : Counters) (x : Exc
   unfolding performed
   stopped-performed Deed.Nothing s m h = h
   stopped-performed Deed.Store s m h =
-      let l = leaves-stored image (x .held .pad) (x .held .ta) (padded .size) (s refl) in
+      let l = leaves-keeps (keeps-apart image (x .held .pad) (x .held .ta) (padded .size) (s refl)) in
       record {
         listed = listed-left l (settings-left l tt tt tt tt tt) (whole-stored (x .held .pad) (x .held .ta) (padded .size) (padded .bytes) (h .listed .whole)) tt tt tt tt tt tt tt tt tt (h .listed);
         mip = l .bits 0x0215 1 tt tt tt ∙ h .mip;

@@ -3,24 +3,24 @@
 use mathlib.Core.Path.{_≡_, _∙_}
 use mathlib.Core.Bool.{true, false, not, _&&_, _||_}
 use mathlib.Core.List.{List}
-use Prim.Native.Nat.{ℕ, _+_, _-_, _*_, _/_, _%_, _≤_, _<_}
+use Prim.Native.Nat.{ℕ, _+_, _-_, _%_, _≤_, _<_}
 use native.Mathlib.Nat.{mod-lt}
 use lib.Dec.{T}
 use lib.ListN.{length, getD}
 use Rattle.bits.specs.Bits.{digit}
 use Rattle.calendar.specs.Calendar.{clockAfter}
 use Rattle.image.specs.Keeps.{Run, free}
+use Rattle.image.specs.Leaves.{Flag, spares, touched, Leaves, word-left}
 use Rattle.image.specs.Registers
 use Rattle.mission.specs.Clock.{clockOf, stampOf}
 use Rattle.mission.specs.Clock.Laws.{stamp-kept}
-use Rattle.mission.specs.Leaves.{Flag, spares, touched, Leaves, word-left}
 use Rattle.mission.specs.Mission
 use Rattle.mission.specs.Mission.Converts.{entry-kept}
 use Rattle.mission.specs.Mission.Settings.{SameSettings, settings-then, places-same}
+use Rattle.mission.specs.Mission.Times.{OnTime}
 use Rattle.mission.specs.Mission.Whole.{Whole}
 use Rattle.mission.specs.declared.Counters.{Counters}
 use Rattle.promises.specs.Demand2.AtStart.{settingsOf, places-pos}
-use Rattle.promises.specs.Demand2.Wait.{waitOf}
 use Rattle.promises.specs.History
 use Rattle.promises.specs.History.{Conversion}
 use Rattle.promises.specs.History.Laws.{isNone}
@@ -42,13 +42,9 @@ pub record Listed (start : List ℕ) (es : List Conversion) (image : List ℕ) :
 
 -- while the mission runs, t ticks after Start
 pub record Running (start : List ℕ) (es : List Conversion) (t : ℕ) (image : List ℕ) (c : Counters) : Type 0 where
-  pub mip : Registers.mip image ≡ true
+  pub time : OnTime (Registers.delay start) (Mission.period start) t image c
   pub eosc : Registers.eosc image ≡ true
-  pub rated : Registers.rate start ≡ 0 → ⊥
   pub clock : clockOf image ≡ clockAfter t (clockOf start)
-  pub delay : Registers.delay image ≡ Registers.delay start - t / 60
-  pub minute : t < 60 * Registers.delay start → c .minute ≡ t % 60
-  pub wait : c .wait ≡ waitOf (Mission.period start) (t - 60 * Registers.delay start)
   pub waiting : Mission.waiting image ≡ Registers.suta start && isNone es
 
 -- a running mission whose ticks had these readings

@@ -3,79 +3,42 @@ use mathlib.Core.Path.{_≡_, refl, sym, _∙_}
 use mathlib.Core.Bool.{Bool, true, false, not, _&&_, false≢true}
 use mathlib.Core.List.{List, [], _∷_, _++_, append-nil}
 use mathlib.Core.Logic.{dite}
-use Prim.Native.Nat.{ℕ, _+_, _-_, _*_, _/_, _%_, _≤_, _<_}
+use Prim.Native.Nat.{ℕ, _+_, _%_, _≤_, _<_}
 use native.Mathlib.Decide.{ℕ-discrete}
 use native.Mathlib.Nat.{mod-lt}
 use native.Mathlib.Numerals.{add-one}
 use native.Mathlib.Omega.{arith}
-use borrow.Author.Tests.{eq-eqb, ne-eqb, leb-true, leb-false, ltb-true, ltb-false, lt-ltb}
-use lib.Dec.{eqb, leb, ltb}
+use borrow.Author.Tests.{eq-eqb, ne-eqb}
+use lib.Dec.{eqb, leb}
 use lib.ListN.{length, getD, length-append, List·getD-append}
 use lib.Seq.{getD-append-seam}
 use Rattle.bits.specs.Choose.{if_then_else_}
 use Rattle.calendar.specs.Calendar.{nextSecond, clockAfter}
+use Rattle.image.specs.Leaves.{Leaves, leaves-same, leaves-then, leaves-choice, leaves-wider, leaves-putWord}
 use Rattle.image.specs.Registers
 use Rattle.mission.specs.Clock.{clockOf}
 use Rattle.mission.specs.Clock.Laws.{clock-kept}
-use Rattle.mission.specs.Leaves.{Leaves, leaves-same, leaves-then, leaves-choice, leaves-wider, leaves-putWord}
 use Rattle.mission.specs.Mission
 use Rattle.mission.specs.Mission.Converts.{Converts, waiting-same}
 use Rattle.mission.specs.Mission.Converts as Conversions
 use Rattle.mission.specs.Mission.Frames.{leaves-clocked, leaves-missionTicked, leaves-ticked}
-use Rattle.mission.specs.Mission.Laws.{period-pos}
-use Rattle.mission.specs.Mission.Settings.{settings-left, settings-then, period-same, places-same, resolved-same, alarms-same}
-use Rattle.mission.specs.Mission.Ticks.{clock-clocked, counters-ticked, ticked-delaying, ticked-between, ticked-ended, delay-ticked, converts-ticked}
+use Rattle.mission.specs.Mission.Settings.{settings-left, settings-then, places-same, resolved-same, alarms-same}
+use Rattle.mission.specs.Mission.Ticks.{clock-clocked, ticked-delaying, ticked-between, ticked-ended, converts-ticked}
+use Rattle.mission.specs.Mission.Times.{due-time, on-time-ticked}
 use Rattle.mission.specs.Mission.Whole.{whole-ticked}
 use Rattle.mission.specs.declared.Counters.{Counters}
 use Rattle.promises.specs.Demand2.Counts.{next-count, count-more, first-count, end-count, flags-more, flags-same, unlogged-waits, unlogged-quiet, waits-no-more, waits-on}
 use Rattle.promises.specs.Demand2.Holds.{none, Listed, Running, Holds, listed-left}
-use Rattle.promises.specs.Demand2.AtStart.{settingsOf, period-of, places-of, alarms-of, kept-of, places-pos, places-le, place-apart}
-use Rattle.promises.specs.Demand2.Wait.{waitOf, wait-zero, wait-next}
+use Rattle.promises.specs.Demand2.AtStart.{settingsOf, places-of, alarms-of, kept-of, places-pos, places-le, place-apart, isTime-of}
 use Rattle.promises.specs.History
 use Rattle.promises.specs.History.{Conversion}
-use Rattle.promises.specs.History.Laws.{isNone, logs, adds, added, history-more, history-le, stamp-more, time-before, time-after, none-length, none-more}
+use Rattle.promises.specs.History.Laws.{isNone, logs, adds, added, history-more, history-le, stamp-more, none-length, none-more}
 
 module _ {start image : List ℕ} {es : List Conversion} {t : ℕ} {c : Counters} (p : Listed start es image) (q : Running start es t image c) where
   -- ---- where the mission stands
 
-  delaying-of : Mission.delaying image ≡ ltb t (60 * Registers.delay start)
-  unfolding Mission.delaying
-  delaying-of = rw (q .mip, q .delay) (by-test (ltb t (60 * Registers.delay start)) refl)
-    where
-      by-test : (b : Bool) → ltb t (60 * Registers.delay start) ≡ b → not (eqb (Registers.delay start - t / 60) 0) ≡ b
-      by-test true e = rw (ne-eqb (Registers.delay start - t / 60) 0 (omega (arith, ltb-true t (60 * Registers.delay start) e)))
-      by-test false e = rw (eq-eqb (Registers.delay start - t / 60) 0 (omega (arith, ltb-false t (60 * Registers.delay start) e)))
-
-  converting-not : t < 60 * Registers.delay start → Mission.converting image ≡ false
-  unfolding Mission.converting
-  converting-not h = rw (q .mip, q .delay, ne-eqb (Registers.delay start - t / 60) 0 (omega arith))
-
-  converting-now : 60 * Registers.delay start ≤ t → Mission.converting image ≡ true
-  unfolding Mission.converting
-  converting-now h =
-      rw (q .mip, q .delay, eq-eqb (Registers.delay start - t / 60) 0 (omega arith), p .settings .rate, ne-eqb (Registers.rate start) 0 (q .rated))
-
-  period-now : 0 < Mission.period start
-  period-now = period-pos start (q .rated)
-
   due-of : Mission.due image c ≡ History.isTime (settingsOf start) (t + 1)
-  unfolding Mission.due settingsOf
-  due-of = by-test (ltb t (60 * Registers.delay start)) refl
-    where
-      by-test : (b : Bool) → ltb t (60 * Registers.delay start) ≡ b
-          → (Mission.converting image && eqb (c .wait) 0) ≡ History.isTime (settingsOf start) (t + 1)
-      by-test true e =
-          let h = ltb-true t (60 * Registers.delay start) e in
-          rw (converting-not h, time-before (settingsOf start) t h)
-      by-test false e =
-          let h = ltb-false t (60 * Registers.delay start) e in
-          rw (
-            converting-now h,
-            q .wait,
-            wait-zero (Mission.period start) (t - 60 * Registers.delay start) period-now,
-            time-after (settingsOf start) t h,
-            period-of start,
-          )
+  due-of = rw (add-one t, isTime-of start) (due-time (q .time))
 
   nextEntry-of : Mission.nextEntry image ≡ length es
   unfolding Mission.nextEntry
@@ -89,49 +52,9 @@ module _ {start image : List ℕ} {es : List Conversion} {t : ℕ} {c : Counters
       rw (nextEntry-of, places-same (p .settings), p .settings .ro, places-of start)
       (end-count (Registers.ro start) (Registers.suta start) (Mission.places start) (length es) (Registers.missionSamples image) (places-le start) (p .samples) (rw (places-of start) at le))
 
-  -- ---- the counters, the delay and the clock
-
-  next-minute : t + 1 < 60 * Registers.delay start → Mission.nextMinute image c ≡ (t + 1) % 60
-  unfolding Mission.nextMinute Mission.minuteOver
-  next-minute h =
-      rw (delaying-of, lt-ltb t (60 * Registers.delay start) (omega arith), q .minute (omega arith)) (by-test (leb 59 (t % 60)) refl)
-    where
-      by-test : (b : Bool) → leb 59 (t % 60) ≡ b → (if b then 0 else t % 60 + 1) ≡ (t + 1) % 60
-      by-test true e = omega (arith, leb-true 59 (t % 60) e)
-      by-test false e = omega (arith, leb-false 59 (t % 60) e)
-
-  next-wait : Mission.nextWait image c ≡ waitOf (Mission.period start) (t + 1 - 60 * Registers.delay start)
-  unfolding Mission.nextWait
-  next-wait = by-test (ltb t (60 * Registers.delay start)) refl
-    where
-      by-test : (b : Bool) → ltb t (60 * Registers.delay start) ≡ b
-          → (if Mission.converting image then (if eqb (c .wait) 0 then Mission.period image - 1 else c .wait - 1) else c .wait)
-          ≡ waitOf (Mission.period start) (t + 1 - 60 * Registers.delay start)
-      by-test true e =
-          let h = ltb-true t (60 * Registers.delay start) e in
-          let none : t + 1 - 60 * Registers.delay start ≡ t - 60 * Registers.delay start = omega arith in
-          rw (converting-not h, none) (q .wait)
-      by-test false e =
-          let h = ltb-false t (60 * Registers.delay start) e in
-          let more : t + 1 - 60 * Registers.delay start ≡ t - 60 * Registers.delay start + 1 = omega arith in
-          rw (converting-now h, q .wait, period-same (p .settings), more)
-          (sym (wait-next (Mission.period start) (t - 60 * Registers.delay start) period-now))
+  -- ---- the clock
 
   module _ (reading : ℕ) where
-    next-delay : Registers.delay (Mission.ticked image c reading) ≡ Registers.delay start - (t + 1) / 60
-    unfolding Mission.minuteOver
-    next-delay = delay-ticked image c reading (p .whole) ∙ rw delaying-of (by-test (ltb t (60 * Registers.delay start)) refl)
-      where
-        minute-over : (b : Bool) → leb 59 (c .minute) ≡ b → t < 60 * Registers.delay start
-            → (if b then Registers.delay image - 1 else Registers.delay image) ≡ Registers.delay start - (t + 1) / 60
-        minute-over true e h = omega (arith, q .delay, q .minute h, leb-true 59 (c .minute) e)
-        minute-over false e h = omega (arith, q .delay, q .minute h, leb-false 59 (c .minute) e)
-
-        by-test : (b : Bool) → ltb t (60 * Registers.delay start) ≡ b
-            → (if b && leb 59 (c .minute) then Registers.delay image - 1 else Registers.delay image) ≡ Registers.delay start - (t + 1) / 60
-        by-test true e = minute-over (leb 59 (c .minute)) refl (ltb-true t (60 * Registers.delay start) e)
-        by-test false e = omega (arith, q .delay, ltb-false t (60 * Registers.delay start) e)
-
     second-later : (if Registers.eosc image then nextSecond (clockOf image) else clockOf image) ≡ clockAfter (t + 1) (clockOf start)
     unfolding clockAfter
     second-later = rw (q .eosc, q .clock, add-one t)
@@ -148,17 +71,12 @@ module _ {start image : List ℕ} {es : List Conversion} {t : ℕ} {c : Counters
         → Running start after (t + 1) (Mission.ticked image c reading) (Mission.tickedCounters image c reading)
     running-ticked e =
         let l = leaves-ticked image c reading in
-        rw (counters-ticked image c reading)
-        (record {
-          mip = l .bits 0x0215 1 tt tt tt ∙ q .mip;
+        record {
+          time = rw (add-one t) (on-time-ticked (q .time) (p .whole) reading);
           eosc = l .bits 0x0212 0 tt tt tt ∙ q .eosc;
-          rated = q .rated;
           clock = next-clock;
-          delay = next-delay;
-          minute = next-minute;
-          wait = next-wait;
           waiting = e;
-        })
+        }
 
     -- ---- a tick that makes no conversion
 

@@ -9,29 +9,33 @@ use native.Mathlib.Decide.{decLe}
 use native.Mathlib.Omega.{arith}
 use borrow.Author.Tests.{eq-eqb}
 use lib.ListN.{length}
-use Rattle.exchange.specs.declared.Exchange.{Exchange}
 use Rattle.exchange.specs.Exchange as exchange
 use Rattle.exchange.specs.Exchange.Laws as exchange-laws
 use Rattle.image.specs.Answers.{checked}
+use Rattle.image.specs.Answers.Laws.{SameKeys, keys-then, keys-kept}
 use Rattle.image.specs.Fields.{flagAt}
+use Rattle.image.specs.Leaves.{leaves-same}
 use Rattle.image.specs.Registers.{mip, eosc, passwordControl, fullPassword}
 use Rattle.memory.specs.Phases.{writing, letsWrite, free}
 use Rattle.memory.specs.Phases.Laws.{shut-writing}
+use Rattle.mission.specs.Mission.Frames.{leaves-ticked, leaves-forced, mip-ticked, mip-forced}
 use Rattle.mission.specs.declared.Counters.{Counters}
-use Rattle.mission.specs.Leaves.{leaves-same}
 use Rattle.mission.specs.Mission.{forced, ticked, tickedCounters}
 use Rattle.mission.specs.Mission.Commands.{forced-mission}
 use Rattle.tag.specs.Tag.{answerTo, slotted, resetTag, tickTag}
 use Rattle.tag.specs.Tag.Laws.{ranges-of}
-use Rattle.promises.specs.Demand3.{EndsField, Forces, Converted, Unconverted, LeftToTicks}
-use Rattle.promises.specs.Demand3.Image.{SameKeys, keys-then, keys-ticked, keys-forced, mip-ticked, mip-forced, counters-idle, Spoilt, spoilt-idle, spoilt-forced, spoilt-ticked}
+use Rattle.promises.specs.Demand3.{EndsField, Forces, Converted, Unconverted, LeftToTicks, NoPassword}
+use Rattle.promises.specs.Demand3.Image.{counters-idle, Spoilt, spoilt-idle, spoilt-forced, spoilt-ticked}
 use Rattle.promises.specs.Demand3.Slot.{unlet-write, convert-forces, free-performed, free-counters}
 use Rattle.promises.specs.Runs.{State, Event, after, run, ticksOf, Always, OnSlots}
-use Rattle.promises.specs.Runs.Laws.{invariant-always, always-map, Sound, sound-after, slot-happens, reset-happens, tick-happens, tick-refused}
+use Rattle.promises.specs.Runs.Laws.{invariant-always, always-map, Sound, sound-after, slot-happens, reset-happens, tick-happens, tick-refused, on-slots, all-slots, always-all}
 
 -- no password field carries the full password of this image
 abbrev pub NoFull : List ℕ → State → Event → Type 0
 NoFull image = OnSlots (λ s bit. (field : ℕ) → EndsField (s .tag .exchange) bit field → field ≢ fullPassword image)
+
+pub no-full : (image : List ℕ) (s : State) (e : Event) → NoPassword image s e → NoFull image s e
+no-full image = on-slots (λ s bit p field ends. p field ends .1)
 
 -- a tag with checking on, that has let no field write: it has the passwords of the image that it began with
 pub record Guards (image : List ℕ) (s : State) : Type 0 where
@@ -94,7 +98,7 @@ module _ {image : List ℕ} {s : State} (g : Guards image s) (bit : Bool) (wrong
       record {
         sound = sound-after (Event.slot bit) (g .sound);
         shut = slot-shut;
-        keys = slot-image (SameKeys image) (g .keys) (λ forces. keys-then (g .keys) (keys-forced (s .image) (s .tag .counters)));
+        keys = slot-image (SameKeys image) (g .keys) (λ forces. keys-then (g .keys) (keys-kept (leaves-forced (s .image) (s .tag .counters) .keeps) tt));
         on = g .on;
       }
 
@@ -124,7 +128,7 @@ tick-guards {image} {s} reading g =
     record {
       sound = sound-after (Event.tick reading) (g .sound);
       shut = tick-cases (g .sound) reading (λ u. writing (u .tag .exchange .bus .stage) ≡ false) (g .shut) (g .shut);
-      keys = tick-cases (g .sound) reading (λ u. SameKeys image (u .image)) (keys-then (g .keys) (keys-ticked (s .image) (s .tag .counters) reading)) (g .keys);
+      keys = tick-cases (g .sound) reading (λ u. SameKeys image (u .image)) (keys-then (g .keys) (keys-kept (leaves-ticked (s .image) (s .tag .counters) reading .keeps) tt)) (g .keys);
       on = g .on;
     }
 
@@ -250,9 +254,7 @@ mission-unconverted s E g m wrong =
     (flag-stays 0x0215 1 true mip-ticked mip-forced (s .image)) s E (g, m) wrong)
   where
     none : (u : State) (e : Event) → (Guards (s .image) u × (mip (u .image) ≡ true)) × NoFull (s .image) u e → OnSlots (λ v bit. Converted v bit → ⊥) u e
-    none u (Event.slot bit) h = λ c. true≢false (sym (h .0 .1) ∙ c .1)
-    none u Event.reset h = tt
-    none u (Event.tick reading) h = tt
+    none u e h = all-slots (λ v bit. Converted v bit → ⊥) u e (λ bit c. true≢false (sym (h .0 .1) ∙ c .1))
 
 -- ---- with no mission
 
@@ -261,13 +263,6 @@ spoilt-ticks : (runs : Bool) (a b : List ℕ) (c : Counters) (reading : ℕ) →
 spoilt-ticks runs a b c reading p =
     (spoilt-ticked c reading p, counters-idle b c reading (spoilt-idle p) ∙ sym (counters-idle a c reading (p .idle)))
 
-anything : (s : State) (E : List Event) → Always (OnSlots (λ u bit. Unit {0})) s E
-unfolding Always
-anything s [] = tt
-anything s (Event.slot bit ∷ E) = (tt, anything _ E)
-anything s (Event.reset ∷ E) = (tt, anything _ E)
-anything s (Event.tick reading ∷ E) = (tt, anything _ E)
-
 spoilt-run : (s : State) (E : List Event) → Guards (s .image) s → mip (s .image) ≡ false → Always (NoFull (s .image)) s E →
     Beside (Spoilt (eosc (s .image))) (s .image) (run s E .state) (run s (ticksOf E) .state)
 spoilt-run s E g m wrong =
@@ -275,7 +270,7 @@ spoilt-run s E g m wrong =
     (λ a u bit size p f q. spoilt-forced (u .tag .counters) (omega arith) q)
     (s .image) E
     (begins g (record { leaves = leaves-same; idle = m; clocks = λ runs. (runs, runs) }))
-    wrong (anything s E)
+    wrong (always-all (λ u e. all-slots (λ v bit. Unit {0}) u e (λ bit. tt)) s E)
 
 -- ---- together
 

@@ -12,7 +12,7 @@ use Rattle.memory.specs.Phases.{opened, lets}
 use Rattle.tag.specs.Tag.{Outcome, answerTo, slotted, resetTag, tickTag}
 use Rattle.promises.specs.Demand3.{Conditional, Alike, NoPassword, AlarmsAgree, Demand3}
 use Rattle.promises.specs.Demand3.Reset.{reset-again, reset-opened, begins-guarded}
-use Rattle.promises.specs.Demand3.Left.{NoFull, Guards, guards-checked, guards-range, guards-after, left-to-ticks}
+use Rattle.promises.specs.Demand3.Left.{Guards, guards-checked, guards-range, guards-after, left-to-ticks, no-full}
 use Rattle.promises.specs.Demand3.Slot.{alarm-asked, unlet}
 use Rattle.promises.specs.Runs.{State, Event, after, lineBit}
 use Rattle.promises.specs.Runs.Laws.{relation, always-map, together-with, slot-happens, reset-happens, tick-happens}
@@ -30,41 +30,31 @@ pub record Twins (i j : List ℕ) (s t : State) : Type 0 where
 abbrev pub Come : List ℕ → List ℕ → State → Event → State → Event → Type 0
 Come i j s e t f = NoPassword i s e × NoPassword j t f × Alike e f × AlarmsAgree s e t f
 
-no-full : (image : List ℕ) (s : State) (e : Event) → NoPassword image s e → NoFull image s e
-no-full image s (Event.slot bit) p = λ field ends. p field ends .1
-no-full image s Event.reset p = tt
-no-full image s (Event.tick reading) p = tt
-
 abbrev lineOf : Outcome → Bool
 lineOf o = o .answered .line
+
+-- the answer of one of them, to an exchange in the place of its own
+answers : State → Bool → Exchange → ℕ
+answers u bit x = answerTo (u .image) (u .tag .code) (exchange.asks x bit)
+
+unlet-guarded : {image : List ℕ} {u : State} (bit : Bool) → Guards image u → NoPassword image u (Event.slot bit) →
+    lets (exchange.asks (u .tag .exchange) bit) (answers u bit (u .tag .exchange)) ≡ false
+unfolding answers
+unlet-guarded {u = u} bit g wrong =
+    unlet (u .image) (u .tag .code) (u .tag .exchange) bit (guards-range g) (guards-checked g)
+    (λ field ends. (λ e. wrong field ends .0 (e ∙ g .keys .read), λ e. wrong field ends .1 (e ∙ g .keys .full)))
 
 module _ {i j : List ℕ} {s t : State} (w : Twins i j s t) (bit : Bool)
     (wrong-s : NoPassword i s (Event.slot bit)) (wrong-t : NoPassword j t (Event.slot bit))
     (alarms : Conditional (s .tag .exchange) bit → alarmed (s .image) ≡ alarmed (t .image)) where
-  -- the answer of one of them, to an exchange in the place of its own
-  answers : State → Exchange → ℕ
-  answers u x = answerTo (u .image) (u .tag .code) (exchange.asks x bit)
-
-  unlet-s : lets (exchange.asks (s .tag .exchange) bit) (answers s (s .tag .exchange)) ≡ false
-  unfolding answers
-  unlet-s =
-      unlet (s .image) (s .tag .code) (s .tag .exchange) bit (guards-range (w .guards-s)) (guards-checked (w .guards-s))
-      (λ field ends. (λ e. wrong-s field ends .0 (e ∙ w .guards-s .keys .read), λ e. wrong-s field ends .1 (e ∙ w .guards-s .keys .full)))
-
-  unlet-t : lets (exchange.asks (t .tag .exchange) bit) (answers t (t .tag .exchange)) ≡ false
-  unfolding answers
-  unlet-t =
-      unlet (t .image) (t .tag .code) (t .tag .exchange) bit (guards-range (w .guards-t)) (guards-checked (w .guards-t))
-      (λ field ends. (λ e. wrong-t field ends .0 (e ∙ w .guards-t .keys .read), λ e. wrong-t field ends .1 (e ∙ w .guards-t .keys .full)))
-
-  agree : exchange.slotOf (s .tag .exchange) bit (answers s (s .tag .exchange)) ≡ exchange.slotOf (t .tag .exchange) bit (answers t (t .tag .exchange))
+  agree : exchange.slotOf (s .tag .exchange) bit (answers s bit (s .tag .exchange)) ≡ exchange.slotOf (t .tag .exchange) bit (answers t bit (t .tag .exchange))
   unfolding answers answerTo
   agree =
       let x = s .tag .exchange in
-      exchange-laws.shut-agree x bit (answers s x) (answers t x) (w .shut) unlet-s
-      (subst (λ (y : Exchange). lets (exchange.asks y bit) (answers t y) ≡ false) (sym (w .same)) unlet-t)
+      exchange-laws.shut-agree x bit (answers s bit x) (answers t bit x) (w .shut) (unlet-guarded bit (w .guards-s) wrong-s)
+      (subst (λ (y : Exchange). lets (exchange.asks y bit) (answers t bit y) ≡ false) (sym (w .same)) (unlet-guarded bit (w .guards-t) wrong-t))
       (λ asked. rw (asked, alarms (alarm-asked x bit (guards-range (w .guards-s)) asked)))
-      ∙ ap (λ (y : Exchange). exchange.slotOf y bit (answers t y)) (w .same)
+      ∙ ap (λ (y : Exchange). exchange.slotOf y bit (answers t bit y)) (w .same)
 
   slot-line : lineBit s (Event.slot bit) ≡ lineBit t (Event.slot bit)
   unfolding slotted answers
@@ -79,7 +69,7 @@ module _ {i j : List ℕ} {s t : State} (w : Twins i j s t) (bit : Bool)
       record {
         guards-s = guards-after s (Event.slot bit) (w .guards-s) (no-full i s (Event.slot bit) wrong-s);
         guards-t = guards-after t (Event.slot bit) (w .guards-t) (no-full j t (Event.slot bit) wrong-t);
-        shut = rw p (exchange-laws.shut-after (s .tag .exchange) bit (answers s (s .tag .exchange)) (w .shut) unlet-s);
+        shut = rw p (exchange-laws.shut-after (s .tag .exchange) bit (answers s bit (s .tag .exchange)) (w .shut) (unlet-guarded bit (w .guards-s) wrong-s));
         same = rw (p, q) (ap (λ (m : Slotted). m .exchange) agree);
       }
 

@@ -3,12 +3,12 @@ use mathlib.Core.Path.{_≡_}
 use mathlib.Core.Bool.{false}
 use Rattle.exchange.specs.Exchange as exchange
 use Rattle.exchange.specs.Exchange.Laws as exchange-laws
+use Rattle.image.specs.Answers.Laws.{keys-same}
 use Rattle.image.specs.Registers.{passwordControl}
 use Rattle.memory.specs.Phases.{opened}
 use Rattle.memory.specs.Phases.Laws.{shut-writing}
 use Rattle.tag.specs.Tag.{resetTag}
 use Rattle.promises.specs.Demand3.{JustReset}
-use Rattle.promises.specs.Demand3.Image.{keys-same}
 use Rattle.promises.specs.Demand3.Left.{Guards}
 use Rattle.promises.specs.Runs.{State, Event, after}
 use Rattle.promises.specs.Runs.Laws.{Sound, sound-after, reached-sound, reset-happens}

@@ -9,11 +9,14 @@ use borrow.Author.Tests.{ltb-true, ltb-false}
 use lib.Dec.{eqb, ltb}
 use Rattle.bits.specs.Bits.{shiftIn}
 use Rattle.bits.specs.Choose.{if_then_else_, either}
+use Rattle.exchange.specs.Exchange.Laws.{parts}
 use Rattle.exchange.specs.declared.Exchange.{Exchange}
 use Rattle.exchange.specs.Exchange as exchange
 use Rattle.image.specs.Answers.{checked}
 use Rattle.image.specs.Answers.Laws.{control-refused, copy-refused, read-refused}
 use Rattle.image.specs.Registers.{readPassword, fullPassword}
+use Rattle.memory.specs.Phases.Deeds.{control-done}
+use Rattle.memory.specs.Range.Laws.{ranged}
 use Rattle.memory.specs.declared.Control.{Control}
 use Rattle.memory.specs.declared.Deed.{Deed}
 use Rattle.memory.specs.declared.Guarded.{Guarded}
@@ -24,8 +27,7 @@ use Rattle.memory.specs.declared.Stage.{Stage}
 use Rattle.memory.specs.Field.{fieldQuestion, fieldAsks}
 use Rattle.memory.specs.Memory as memory
 use Rattle.memory.specs.Phases.{letsRead, letsWrite, lets, free}
-use Rattle.memory.specs.Phases.Laws as phases
-use Rattle.memory.specs.Range.{memoryInRange, guardedInRange, hearingInRange, fromOffset, stageInRange}
+use Rattle.memory.specs.Range.{guardedInRange, hearingInRange, stageInRange}
 use Rattle.memory.specs.Send.{sendAsks}
 use Rattle.mission.specs.declared.Counters.{Counters}
 use Rattle.mission.specs.Mission as mission
@@ -36,10 +38,7 @@ use Rattle.promises.specs.Demand3.{EndsField, Conditional, Forces}
 -- ---- how many bits are past
 
 stage-in-range : (x : Exchange) → exchange.exchangeInRange x ≡ true → stageInRange (x .bus .stage) (x .held) (x .bus) ≡ true
-unfolding memoryInRange
-stage-in-range x range =
-    let whole = and-eq-true-iff (select.selectInRange (x .select)) (memoryInRange (x .held) (x .bus)) .0 range .1 in
-    and-eq-true-iff (fromOffset (x .held) (x .held .ending)) (stageInRange (x .bus .stage) (x .held) (x .bus)) .0 whole .1
+stage-in-range x range = ranged (x .held) (x .bus) (parts x range .1) .1
 
 gathered-lt : (x : Exchange) (g : Guarded) → exchange.exchangeInRange x ≡ true → x .bus .stage ≡ Stage.Gathers g → x .bus .at < 64
 unfolding stageInRange
@@ -151,7 +150,7 @@ convert-forces x bit answer range = by (select.isSelected (x .select)) refl
         else exchange.choosing x (select.slotOf (x .select) (x .number) bit (eqb answer 1))) .deed ≡ Deed.Convert →
         Forces x bit
     by true chosen e =
-        let done = phases.control-done (x .held) (x .bus) bit answer Control.Convert e in
+        let done = control-done (x .held) (x .bus) bit answer Control.Convert e in
         record {
           chosen = chosen;
           awaited = done .0;

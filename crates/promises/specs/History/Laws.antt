@@ -2,17 +2,17 @@
 use mathlib.Core.Path.{_≡_, refl, sym, ap, _∙_}
 use mathlib.Core.Bool.{Bool, true, false, not, _&&_, _||_}
 use mathlib.Core.List.{List, [], _∷_, _++_, append-nil}
-use Prim.Native.Nat.{ℕ, zero, suc, _+_, _-_, _*_, _%_, _≤_, _<_, min}
+use Prim.Native.Nat.{ℕ, zero, suc, _+_, _≤_, _<_, min}
 use native.Mathlib.Nat.{zero-add, suc-add, add-suc, not-suc-le-zero}
 use native.Mathlib.Omega.{arith}
-use borrow.Author.Tests.{le-leb, leb-true, leb-false, lt-ltb, le-ltb, ne-eqb}
+use borrow.Author.Tests.{le-leb, leb-true, leb-false, ne-eqb}
 use lib.Dec.{eqb, leb}
 use lib.ListN.{length, take, drop, length-append, length-take}
 use lib.Seq.{take-all, take-append-le, length-take-le}
 use Rattle.bits.specs.Bits.{digit}
-use Rattle.bits.specs.Choose.{if_then_else_}
+use Rattle.bits.specs.Choose.{if_then_else_, choice}
 use Rattle.calendar.specs.Calendar.{clockAfter}
-use Rattle.promises.specs.History.{Settings, Conversion, period, places, isTime, alarms, conversionsFrom, fromAlarm, toLog, most, history, clockAt, stamp}
+use Rattle.promises.specs.History.{Settings, Conversion, places, isTime, alarms, conversionsFrom, fromAlarm, toLog, most, history, clockAt, stamp}
 
 -- ---- conversions
 
@@ -96,12 +96,9 @@ none-taken (suc m) (c ∷ cs) h = refl
 
 pub most-pos : (s : Settings) → 0 < most s
 unfolding most places
-most-pos s = by-tests (s .ro) (s .tlfs)
-  where
-    by-tests : (r f : Bool) → 0 < (if r then 0xFFFFFF + digit (s .suta) else min (if f then 4096 else 8192) (0xFFFFFF + digit (s .suta)))
-    by-tests true f = omega arith
-    by-tests false true = omega arith
-    by-tests false false = omega arith
+most-pos s =
+    let countable = 0xFFFFFF + digit (s .suta) in
+    choice (λ (n : ℕ). 0 < n) (s .ro) (omega arith) (choice (λ (n : ℕ). 0 < min n countable) (s .tlfs) (omega arith) (omega arith))
 
 logs-taken : (s : Settings) (log : List Conversion) (reading : ℕ) → logs s (take (most s) log) reading ≡ logs s log reading
 unfolding logs
@@ -171,18 +168,6 @@ stamp-more s es c = by-suta (s .suta) es
     by-suta true [] = refl
     by-suta true (x ∷ []) = refl
     by-suta true (x ∷ y ∷ ys) = rw (ne-eqb (suc (suc (length ys))) 1 (omega arith))
-
--- ---- conversion times
-
-pub time-before : (s : Settings) (t : ℕ) → t < 60 * s .delay → isTime s (t + 1) ≡ false
-unfolding isTime
-time-before s t h = rw (le-ltb (60 * s .delay) (t + 1) (omega arith))
-
-pub time-after : (s : Settings) (t : ℕ) → 60 * s .delay ≤ t → isTime s (t + 1) ≡ eqb ((t - 60 * s .delay) % period s) 0
-unfolding isTime
-time-after s t h =
-    let back : t + 1 - 60 * s .delay - 1 ≡ t - 60 * s .delay = omega arith in
-    rw (lt-ltb (60 * s .delay) (t + 1) (omega arith), back)
 
 -- ---- numbers of entries
 

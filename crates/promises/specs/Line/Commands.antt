@@ -2,10 +2,10 @@
 -- with its address. Assumes nothing.
 use mathlib.Core.Path.{_≡_, refl}
 use mathlib.Core.Bool.{Bool}
-use mathlib.Core.List.{List, [], _∷_, _++_, flatMap, append-assoc}
+use mathlib.Core.List.{List, [], _∷_, _++_, flatMap}
 use Prim.Native.Nat.{ℕ, _+_, _*_, _/_, _%_, _<_}
 use native.Mathlib.Omega.{arith}
-use Rattle.bits.specs.Bits.{bitsOf}
+use Rattle.bits.specs.Bits.{bitsOf, slotsOf, released}
 use Rattle.crc.specs.Crc.{crcRun, crc16Run}
 use Rattle.exchange.specs.declared.Exchange.{Exchange}
 use Rattle.exchange.specs.Runs.{run, quietly, commanding, chosen}
@@ -22,14 +22,7 @@ use Rattle.memory.specs.declared.Stage.{Stage}
 use Rattle.memory.specs.Bus.{clearBus, goTo, listens}
 use Rattle.memory.specs.Hear.{commandStage, addressHeard, heardWhole}
 use Rattle.memory.specs.Send.{firstByte, sentWhole, sendAsks}
-use Rattle.memory.specs.Runs.{slotsOf, released}
 use Rattle.memory.specs.Runs.Scratchpad.{overAt}
-
--- the slots of some bytes, and of more
-pub slots-join : (xs ys : List ℕ) → slotsOf (xs ++ ys) ≡ slotsOf xs ++ slotsOf ys
-unfolding flatMap
-slots-join [] ys = refl
-slots-join (x ∷ xs) ys = rw (append-assoc, ← slots-join xs ys)
 
 module _ (answers : Question → ℕ) (number : ℕ) (mark : Bool) where
   -- a byte that is heard and does nothing, and what comes after it

@@ -4,13 +4,12 @@ use mathlib.Core.Path.{_≡_, refl, _∙_}
 use mathlib.Core.Bool.{Bool, true, false, and-false}
 use mathlib.Core.List.{List, [], _∷_, _++_, flatMap}
 use mathlib.Core.Logic.{_≢_}
-use Prim.Native.Nat.{ℕ, _/_, _%_, _^_, _<_, _≤_}
+use Prim.Native.Nat.{ℕ, _/_, _%_, _^_, _<_}
 use native.Mathlib.Omega.{arith}
 use borrow.Author.Tests.{eq-eqb, ne-eqb}
 use lib.Dec.{eqb}
-use lib.ListN.{length, take, drop}
-use lib.Seq.{length-take-le, drop-append-seam}
-use Rattle.bits.specs.Bits.{digit, bitsOf}
+use Rattle.bits.specs.Bits.{bitsOf, slotsOf}
+use Rattle.bits.specs.Bits.Laws.{slots-append, digit-le}
 use Rattle.crc.specs.Crc.{crc16Run}
 use Rattle.exchange.specs.Runs.{run, quietly, commanding, chosen}
 use Rattle.exchange.specs.Runs.Laws.{run-nil, quiet-then}
@@ -26,9 +25,8 @@ use Rattle.memory.specs.declared.Stage.{Stage}
 use Rattle.memory.specs.Bus.{goTo, noting, listens, statusByte}
 use Rattle.memory.specs.Hear.{commandStage, addressHeard, heardWhole}
 use Rattle.memory.specs.Field.{asHeld, toTheEnd, copies, accepted, judged}
-use Rattle.memory.specs.Runs.{slotsOf}
 use Rattle.memory.specs.Runs.Scratchpad.{overAt}
-use Rattle.promises.specs.Line.Commands.{slots-join, heard-then, head-run}
+use Rattle.promises.specs.Line.Commands.{heard-then, head-run}
 
 -- 99h, TA1, TA2, E/S
 abbrev pub copyHead : ℕ → ℕ → List ℕ
@@ -46,7 +44,7 @@ module _ (answers : Question → ℕ) (number : ℕ) (mark : Bool) (held : Held)
   copy-head address status fits small =
       let head : List ℕ = 0x99 ∷ address % 256 ∷ address / 256 ∷ [] in
       let start = overAt (crc16Run 0 head) address in
-      rw (slots-join head (status ∷ []))
+      rw (slots-append head (status ∷ []))
       (quiet-then answers _ (slotsOf head) _
       (head-run answers number mark held Addressed.Copy (Stage.Hears Hearing.Status) 0x99 address (omega arith) fits refl (λ bus. refl))
       (heard-then answers number mark Hearing.Status held start status [] small refl (run-nil answers _)))
@@ -92,13 +90,3 @@ copies-unlike (broken pf) may = simp (pf, and-false)
 pub status-lt : (held : Held) → statusByte held < 256
 unfolding statusByte
 status-lt held = omega (arith, digit-le (held .aa), digit-le (held .pf))
-  where
-    digit-le : (b : Bool) → digit b ≤ 1
-    digit-le true = omega arith
-    digit-le false = omega arith
-
--- of a scratchpad that was filled from an address's offset on, the bytes from there on
-pub rest-of-page : (pad : List ℕ) (address : ℕ) (bytes : List ℕ) → length pad ≡ 32 → drop (address % 32) (take (address % 32) pad ++ bytes) ≡ bytes
-rest-of-page pad address bytes long =
-    let first : length (take (address % 32) pad) ≡ address % 32 = length-take-le (address % 32) pad (omega arith) in
-    rw first at (drop-append-seam (take (address % 32) pad) bytes)

@@ -9,7 +9,8 @@ use native.Mathlib.Omega.{arith}
 use borrow.Author.Tests.{lt-ltb, le-ltb}
 use lib.Dec.{eqb, ltb}
 use lib.ListN.{replicate-append-replicate}
-use Rattle.bits.specs.Bits.{bitsOf}
+use Rattle.bits.specs.Bits.{bitsOf, slotsOf, released}
+use Rattle.bits.specs.Bits.Laws.{slots-append, released-more}
 use Rattle.crc.specs.Crc.{crcRun, crc16Run, sentLow, sentHigh}
 use Rattle.dump.specs.Lines.{bytesFrom}
 use Rattle.exchange.specs.Runs.{run, quietly, commanding, chosen}
@@ -27,9 +28,8 @@ use Rattle.memory.specs.Bus.{goTo, addressing}
 use Rattle.memory.specs.Hear.{commandStage, addressHeard}
 use Rattle.memory.specs.Field.{afterReading, judged}
 use Rattle.memory.specs.Send.{firstByte, afterMemory, afterPage, afterCrc, sentWhole, sendAsks}
-use Rattle.memory.specs.Runs.{slotsOf, released}
 use Rattle.memory.specs.Runs.Scratchpad.{overAt}
-use Rattle.promises.specs.Line.Commands.{slots-join, sent-then, head-run}
+use Rattle.promises.specs.Line.Commands.{sent-then, head-run}
 
 -- 69h, TA1, TA2
 abbrev pub readHead : ℕ → List ℕ
@@ -55,9 +55,6 @@ module _ (answers : Question → ℕ) (number : ℕ) (mark : Bool) (held : Held)
   abbrev readOn : Bus → ℕ → List ℕ → Bus
   readOn bus n bytes =
       record { stage = bus .stage; byte = bus .byte; at = bus .at; crc = crc16Run (bus .crc) bytes; address = bus .address + n; status = bus .status; field = bus .field }
-
-  released-more : (n : ℕ) → released (suc n * 8) ≡ released 8 ++ released (n * 8)
-  released-more n = let more : suc n * 8 ≡ 8 + n * 8 = omega arith in rw (more, replicate-append-replicate 8 (n * 8) true)
 
   page-run : (bus : Bus) (n : ℕ) → bus .address % 32 + n ≡ 31 →
       let bytes = bytesFrom byteAt (bus .address) (suc n) in
@@ -132,7 +129,7 @@ module _ (answers : Question → ℕ) (number : ℕ) (mark : Bool) (held : Held)
       let bytes = bytesFrom (λ a. answers (Question.Byte a)) address (suc n) in
       let count : 32 - address % 32 ≡ suc n = omega arith in
       let times : (34 - address % 32) * 8 ≡ suc n * 8 + 16 = omega arith in
-      rw (times, ← replicate-append-replicate (suc n * 8) 16 true, count, slots-join bytes _)
+      rw (times, ← replicate-append-replicate (suc n * 8) 16 true, count, slots-append bytes _)
       (quiet-then answers _ (slotsOf (readHead address)) _ (head answers number mark held address (omega arith))
       (quiet-then answers _ (bitsOf 64 field) _ (may-read answers number mark held start field fits (rw (lt-ltb address 0x3000 low, may)))
       (quiet-then answers _ (released (suc n * 8)) (released 16) (page-run answers number mark held start n (omega arith))
@@ -176,7 +173,7 @@ module _ (answers : Question → ℕ) (number : ℕ) (mark : Bool) (held : Held)
       let start = overAt 0 (last + 1) in
       let bytes = bytesFrom (byteAt answers number mark held) (last + 1) 32 in
       let there : last + 1 + 31 ≡ last + 32 = omega arith in
-      rw (lt-ltb last 0x2FFF more, slots-join bytes _, ← there)
+      rw (lt-ltb last 0x2FFF more, slots-append bytes _, ← there)
       (quiet-then answers _ (released (32 * 8)) (released 16) (page-run answers number mark held start 31 (omega arith))
       (crc-run answers number mark held (readOn answers number mark held start 31 bytes)))
 
@@ -194,6 +191,6 @@ module _ (answers : Question → ℕ) (number : ℕ) (mark : Bool) (held : Held)
       let times : suc n * 272 ≡ 272 + n * 272 = omega arith in
       let page : last + 1 + 32 ≡ last + 32 + 1 = omega arith in
       let end : last + 32 * suc n ≡ last + 32 + 32 * n = omega arith in
-      rw (times, ← replicate-append-replicate 272 (n * 272) true, slots-join (nextSent bytes) _, page, end)
+      rw (times, ← replicate-append-replicate 272 (n * 272) true, slots-append (nextSent bytes) _, page, end)
       (quiet-then answers _ (released 272) (released (n * 272)) (next-run crc last whole (omega arith))
       (pages-run n (crc16Run 0 bytes) (last + 32) (omega arith) (omega arith)))

@@ -1,13 +1,14 @@
 -- Read ROM reads the tag's number. Read Memory with a password that may read gives the bytes as they are sent, to the page's end, and
 -- their CRC-16; of a page of the dump that is its line. Neither changes image or counters. (Document 01, "Choosing a tag on the
 -- line", "Memory commands" and "The dump and its listing".) Assumes nothing.
-use mathlib.Core.Path.{_≡_, refl, _∙_}
+use mathlib.Core.Path.{_≡_, _∙_}
 use mathlib.Core.Bool.{Bool, true, false, _&&_}
 use mathlib.Core.List.{List, [], _∷_, _++_, map}
 use Prim.Native.Nat.{ℕ, _+_, _-_, _*_, _/_, _%_, _^_, _<_}
 use native.Mathlib.Omega.{arith}
 use lib.Dec.{eqb, ltb}
-use Rattle.bits.specs.Bits.{bitsOf, digit}
+use Rattle.bits.specs.Bits.{bitsOf, slotsOf, released}
+use Rattle.bits.specs.Bits.Laws.{digit-one}
 use Rattle.crc.specs.Crc.{crc16Run}
 use Rattle.dump.specs.Dump.{dumpOf, dump-line}
 use Rattle.dump.specs.Lines.{pageOf, pageCrc, lineBytes, lineOf, lineAt, bytesFrom}
@@ -17,7 +18,6 @@ use Rattle.hex.specs.Hex.{hexText}
 use Rattle.image.specs.Answers.{mayRead}
 use Rattle.image.specs.Sent.{sentAt}
 use Rattle.memory.specs.declared.Question.{Question}
-use Rattle.memory.specs.Runs.{slotsOf, released}
 use Rattle.tag.specs.Tag.{answerTo}
 use Rattle.promises.specs.Runs.{State, Event, run}
 use Rattle.promises.specs.Runs.Laws.{Sound}
@@ -34,11 +34,6 @@ pub reads-number : (s : State) → Sound s →
 unfolding waySlots wayLine
 reads-number s sound =
     kept-by s (session-way s sound Way.read)
-
--- the image's answer to "may it?" is 1 exactly if it may
-digit-one : (b : Bool) → eqb (digit b) 1 ≡ b
-digit-one true = refl
-digit-one false = refl
 
 -- ---- Read Memory
 

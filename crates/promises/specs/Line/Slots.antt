@@ -1,11 +1,10 @@
 -- Slots of a tag one after the other, with no tick in between: over an image that stays, they are the exchange's run with the
 -- image's answers. Assumes nothing.
 use mathlib.Core.Path.{_≡_, refl, ap, _∙_}
-use mathlib.Core.Bool.{Bool, true, false}
+use mathlib.Core.Bool.{Bool, false}
 use mathlib.Core.List.{List, [], _∷_, _++_, map, append-assoc}
 use Prim.Native.Nat.{ℕ, zero, suc}
 use lib.ListN.{replicate}
-use Rattle.bits.specs.Bits.{digit}
 use Rattle.exchange.specs.declared.Exchange.{Exchange}
 use Rattle.exchange.specs.Exchange.{afterReset as exchange-reset, slotOf, asks}
 use Rattle.exchange.specs.Runs as exchange
@@ -15,10 +14,9 @@ use Rattle.exchange.specs.Runs.Choosing.{run-way}
 use Rattle.memory.specs.declared.Bus.{Bus}
 use Rattle.memory.specs.declared.Deed.{Deed}
 use Rattle.memory.specs.declared.Question.{Question}
-use Rattle.tag.specs.Tag.{Outcome, answerTo, performed, performedCounters, slotted, resetTag, eventOf, step}
-use Rattle.tag.specs.Tag.Laws.{step-taken}
+use Rattle.tag.specs.Tag.{Outcome, answerTo, performed, performedCounters, slotted, resetTag}
 use Rattle.promises.specs.Runs.{State, Event, leaves, happens, after, lineBit, Ran, run}
-use Rattle.promises.specs.Runs.Laws.{Sound, sound-after}
+use Rattle.promises.specs.Runs.Laws.{Sound, sound-after, slot-happens, reset-happens}
 
 -- the slots with these bits of the master, one after the other
 unfoldable pub slots : State → List Bool → Ran
@@ -112,16 +110,6 @@ slots-lastly s bits n deed e =
 
 -- ---- as events
 
--- a slot's event, and a reset's, in a state that no event refuses with 3 or 6
-slot-event : (s : State) (bit : Bool) → Sound s → step (s .image) (s .tag) (digit bit) 0 ≡ slotted (s .image) (s .tag) bit
-unfolding eventOf
-slot-event s true sound = step-taken (s .image) (s .tag) 1 0 (sound .size) (sound .ranges)
-slot-event s false sound = step-taken (s .image) (s .tag) 0 0 (sound .size) (sound .ranges)
-
-reset-event : (s : State) → Sound s → step (s .image) (s .tag) 2 0 ≡ resetTag (s .image) (s .tag)
-unfolding eventOf
-reset-event s sound = step-taken (s .image) (s .tag) 2 0 (sound .size) (sound .ranges)
-
 -- what an event of this outcome leaves
 after-event : (s : State) (e : Event) {out : Outcome} → happens s e ≡ out → after s e ≡ leaves out
 unfolding after
@@ -141,8 +129,8 @@ run-slots s [] sound = refl
 run-slots s (bit ∷ bits) sound =
     let out = slotted (s .image) (s .tag) bit in
     let e = Event.slot bit in
-    let next : Sound (leaves out) = rw (after-event s e (slot-event s bit sound)) at (sound-after e sound) in
-    run-event s e (map Event.slot bits) (slot-event s bit sound) ∙
+    let next : Sound (leaves out) = rw (after-event s e (slot-happens sound bit)) at (sound-after e sound) in
+    run-event s e (map Event.slot bits) (slot-happens sound bit) ∙
     ap (λ (r : Ran). record { line = out .answered .line ∷ r .line; state = r .state }) (run-slots (leaves out) bits next)
 
 -- a reset, which gives 0, and the slots after it
@@ -151,8 +139,8 @@ pub run-reset : (s : State) (bits : List Bool) {line : List Bool} {t : State} �
     run s (Event.reset ∷ map Event.slot bits) ≡ record { line = false ∷ line; state = t }
 unfolding resetTag
 run-reset s bits sound e =
-    let next : Sound (afterReset s) = rw (after-event s Event.reset (reset-event s sound)) at (sound-after Event.reset sound) in
-    run-event s Event.reset (map Event.slot bits) (reset-event s sound) ∙
+    let next : Sound (afterReset s) = rw (after-event s Event.reset (reset-happens sound)) at (sound-after Event.reset sound) in
+    run-event s Event.reset (map Event.slot bits) (reset-happens sound) ∙
     ap (λ (r : Ran). record { line = false ∷ r .line; state = r .state }) (run-slots (afterReset s) bits next ∙ e)
 
 -- ---- sessions: a reset, a ROM command that chooses the tag, and what comes after it

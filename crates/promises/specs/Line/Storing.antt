@@ -10,7 +10,7 @@ use Prim.Native.Nat.{ℕ, _+_, _-_, _*_, _%_, _^_, _≤_, _<_}
 use native.Mathlib.Omega.{arith}
 use lib.Dec.{eqb}
 use lib.ListN.{length, getD}
-use Rattle.bits.specs.Bits.{bitsOf}
+use Rattle.bits.specs.Bits.{bitsOf, slotsOf, released}
 use Rattle.crc.specs.Crc.{crc16Run, sentLow, sentHigh}
 use Rattle.dump.specs.Lines.{bytesFrom}
 use Rattle.exchange.specs.Runs.{commanding, Way, wayMark}
@@ -28,8 +28,7 @@ use Rattle.memory.specs.declared.Question.{Question}
 use Rattle.memory.specs.declared.Stage.{Stage}
 use Rattle.memory.specs.Bus.{clearBus, goTo, statusByte}
 use Rattle.memory.specs.Field.{copies, accepted}
-use Rattle.memory.specs.Runs.{slotsOf, released}
-use Rattle.memory.specs.Runs.Scratchpad.{overAt, padBytes, read-scratchpad, writeHead, writtenTo, write-scratchpad}
+use Rattle.memory.specs.Runs.Scratchpad.{overAt, padBytes, read-scratchpad, writeHead, writtenTo, write-scratchpad, rest-of-page}
 use Rattle.tag.specs.Tag.{answerTo, performed, performedCounters}
 use Rattle.promises.specs.Runs.{State, run}
 use Rattle.promises.specs.Runs.Laws.{Sound, sound-run}
@@ -37,7 +36,7 @@ use Rattle.promises.specs.Line.Slots.{numberOf, session, greeting, sessi
 use Rattle.promises.specs.Line.ReadRun.{readHead, readSlots, pageSent, sentWith}
 use Rattle.promises.specs.Line.Reading.{reads-memory}
 use Rattle.promises.specs.Line.Back.{plain-back}
-use Rattle.promises.specs.Line.CopyRun.{copyHead, copyBus, copy-head, copy-field, copy-other, copies-right, Unlike, copies-unlike, status-lt, rest-of-page}
+use Rattle.promises.specs.Line.CopyRun.{copyHead, copyBus, copy-head, copy-field, copy-other, copies-right, Unlike, copies-unlike, status-lt}
 
 -- ---- Write Scratchpad, Read Scratchpad
 

@@ -15,7 +15,7 @@ use Rattle.bits.specs.Bits.{digit}
 use Rattle.exchange.specs.Exchange.Laws.{number-kept}
 use Rattle.tag.specs.Tag.{tagInRange, refusal, newTag, slotted, resetTag, tickTag, eventOf}
 use Rattle.tag.specs.Tag.Laws.{new-good, new-made, length-new, new-in-range, length-step, step-in-range, step-taken}
-use Rattle.promises.specs.Runs.{State, Event, codeOf, readingOf, leaves, happens, after, lineBit, Accepts, Ran, run, Reached, Always, Together}
+use Rattle.promises.specs.Runs.{State, Event, codeOf, readingOf, leaves, happens, after, lineBit, Accepts, Ran, run, Reached, Always, Together, OnSlots}
 
 -- ---- an invariant of one event is one of every run
 
@@ -57,6 +57,23 @@ pub always-map : {P Q : State → Event → Type 0} → ((s : State) (e : Event)
 unfolding Always
 always-map f s [] always = tt
 always-map f s (e ∷ es) always = (f s e (always .0), always-map f (after s e) es (always .1))
+
+pub always-all : {P : State → Event → Type 0} → ((s : State) (e : Event) → P s e) → (s : State) (es : List Event) → Always P s es
+unfolding Always
+always-all f s [] = tt
+always-all f s (e ∷ es) = (f s e, always-all f (after s e) es)
+
+-- of slots alone
+pub all-slots : (P : State → Bool → Type 0) (s : State) (e : Event) → ((bit : Bool) → P s bit) → OnSlots P s e
+all-slots P s (Event.slot bit) f = f bit
+all-slots P s Event.reset f = tt
+all-slots P s (Event.tick reading) f = tt
+
+pub on-slots : {P Q : State → Bool → Type 0} → ((s : State) (bit : Bool) → P s bit → Q s bit) →
+    (s : State) (e : Event) → OnSlots P s e → OnSlots Q s e
+on-slots f s (Event.slot bit) p = f s bit p
+on-slots f s Event.reset p = tt
+on-slots f s (Event.tick reading) p = tt
 
 pub always-append : (P : State → Event → Type 0) (s : State) (es fs : List Event) →
     Always P s es → Always P (run s es .state) fs → Always P s (es ++ fs)

@@ -48,5 +48,4 @@ asks-alarm-spec =
     (λ c. search needs)
     returns
     (λ c κs. search needs)
-    returns-2
-    returns-3)
+    returns-2 returns-3)

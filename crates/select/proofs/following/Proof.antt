@@ -5,18 +5,6 @@ use Rattle.select.specs.Select.{following}
 use Rattle.select.proofs.following.Statement.{statement}
 use Rattle.select.proofs.following.Tie as tie
 
-returns : tie.Need-returns
-unfolding following
-returns c = rw (lt-ltb _ _ (c .if1 .taken))
-
-returns-2 : tie.Need-returns-2
-unfolding following
-returns-2 c = rw (le-ltb _ _ (c .if1 .left))
-
 pub following-spec : {M : Type 1} → statement M
-following-spec =
-    tie.close
-    (tie.spec
-    (λ c. search needs)
-    returns
-    returns-2)
+unfolding following
+following-spec = tie.close (tie.spec (search needs) (λ c. rw (lt-ltb _ _ (c .if1 .taken))) (λ c. rw (le-ltb _ _ (c .if1 .left))))

@@ -25,18 +25,9 @@ returns-2 c =
       le-ltb _ _ (c .before .if2 .left),
     )
 
-returns-3 : tie.Need-returns-3
-unfolding heardBit
-returns-3 c = simp (c .keep3 .ensures, ← c .before .before .bit .ensures, c .before .if1 .left)
-
 pub hear-bit-spec : {M : Type 1} → statement M
+unfolding heardBit
 hear-bit-spec =
     tie.close
-    (tie.spec
-    (λ c κs. search needs)
-    (λ c κs. search needs)
-    (λ c κs. search needs)
-    (λ c κs. search needs)
-    returns
-    returns-2
-    returns-3)
+    (tie.spec (search needs) (search needs) (search needs) (search needs) returns returns-2
+    (λ c. simp (c .keep3 .ensures, ← c .before .before .bit .ensures, c .before .if1 .left)))

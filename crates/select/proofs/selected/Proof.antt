@@ -40,5 +40,4 @@ selected-spec =
     tie.close
     (tie.spec
     (λ c. search needs)
-    returns
-    returns-2)
+    returns returns-2)

@@ -7,12 +7,13 @@ use native.Mathlib.Nat.{div-one, mod-eq-of-lt}
 use native.Mathlib.Omega.{arith}
 use lib.ListN.{length}
 use Rattle.bits.specs.Choose.{if_then_else_}
-use Rattle.bits.specs.Bits.{bitOf, bitsOf, numberOf, shiftIn, shiftAll}
+use Rattle.bits.specs.Bits.{bitOf, bitsOf, numberOf, shiftIn, shiftAll, released}
 use Rattle.bits.specs.Bits.Laws.{length-bits, number-bits, heard-whole, bits-from}
+use Rattle.bits.specs.Tests.{beq-eq}
 use Rattle.select.specs.Select.{keeps, clears, resetSelect, romCommand, following, heardBit, slotAt, slotOf}
 use Rattle.select.specs.Select.Laws.{command-more, command-last, following-more, read-more, read-last, heard-right-more, heard-right-last, heard-wrong}
 use Rattle.select.specs.Select.Mark.{known, joins, rom-unknown, rom-joined}
-use Rattle.select.specs.Runs.{Ran, run, released, searchWith, searchAnswers}
+use Rattle.select.specs.Runs.{Ran, run, searchWith, searchAnswers}
 use Rattle.select.specs.declared.Choosing.{Choosing}
 use Rattle.select.specs.declared.Choosing.the-variants.{Silent, Command, Reading, Matching, Giving, Selected}
 use Rattle.select.specs.declared.Select.{Select}
@@ -163,12 +164,6 @@ told-whole way number alarm mark (suc left) at h =
     rw (bits-from (suc left) number at, told-right way number alarm mark at rest (omega arith))
     (ap (follows (way .line (bitOf number at) (bitOf number at))) (told-whole way number alarm mark left (at + 1) (omega arith)))
 
-same-of-beq : (a b : Bool) → Bool·beq a b ≡ true → a ≡ b
-same-of-beq true true e = refl
-same-of-beq true false e = sym e
-same-of-beq false true e = e
-same-of-beq false false e = refl
-
 some-left : (bits : List Bool) (n : ℕ) → (bits ≡ bitsOf (length bits) n → ⊥) → 0 < length bits
 unfolding bitsOf
 some-left [] n other = absurd (other refl)
@@ -198,7 +193,7 @@ told-other way number alarm mark (bit ∷ bits) at h other =
         run (keeps mark (way .stage (at + 1))) number alarm rest .select ≡ keeps mark Silent) →
         run (keeps mark (way .stage at)) number alarm (way .slots bit ++ rest) .select ≡ keeps mark Silent
     by true e onward =
-        let same = same-of-beq (bitOf number at) bit e in
+        let same : bitOf number at ≡ bit = beq-eq (bitOf number at) bit (rw e tt) in
         let some : 0 < length bits = some-left bits (number / 2 ^ (at + 1)) (left-other same) in
         rw (← same)
         (ap (λ (r : Ran). r .select) (told-right way number alarm mark at rest (omega arith)) ∙

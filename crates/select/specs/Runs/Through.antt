@@ -5,13 +5,13 @@ use mathlib.Core.List.{List, [], _∷_, _++_}
 use Prim.Native.Nat.{ℕ, suc, _+_, _*_, _<_, _≤_}
 use native.Mathlib.Omega.{arith}
 use borrow.Author.Tests.{ltb-true, ltb-false}
-use lib.Dec.{ltb, eqb}
+use lib.Dec.{ltb}
 use lib.ListN.{length}
 use Rattle.bits.specs.Choose.{either}
 use Rattle.bits.specs.Bits.{bitOf, bitsOf, shiftIn}
 use Rattle.bits.specs.Bits.Laws.{length-bits}
 use Rattle.select.specs.Select.{resetSelect, romCommand, commandBit, following, readBit, heardBit, slotAt, slotOf, isChosen}
-use Rattle.select.specs.Select.Laws.{following-more}
+use Rattle.select.specs.Select.Laws.{following-more, command-cases}
 use Rattle.select.specs.Runs.{run, stillChoosing}
 use Rattle.select.specs.Runs.Laws.{run-command}
 use Rattle.select.specs.declared.Choosing.{Choosing}
@@ -34,17 +34,8 @@ SelectLasts n select = Lasts (select .choosing) n
 
 -- what a command byte leads to is in its ranges
 rom-lasts : (byte : ℕ) (mark alarm : Bool) → SelectLasts 0 (romCommand byte mark alarm)
-unfolding romCommand Lasts
-rom-lasts byte mark alarm =
-    let P : Select → Type 0 = SelectLasts 0 in
-    let Q : Choosing → Type 0 = λ k. Lasts k 0 in
-    either P (eqb byte 0x33) (λ e. omega arith)
-    (λ e. either P (eqb byte 0x55) (λ e. omega arith)
-    (λ e. either P (eqb byte 0xF0) (λ e. omega arith)
-    (λ e. either P (eqb byte 0xEC) (λ e. either Q alarm (λ e. omega arith) (λ e. tt))
-    (λ e. either P (eqb byte 0xCC) (λ e. refl)
-    (λ e. either P (eqb byte 0xA5) (λ e. either Q mark (λ e. refl) (λ e. tt))
-    (λ e. tt))))))
+unfolding Lasts
+rom-lasts byte mark alarm = command-cases (λ k. Lasts k 0) byte mark alarm (omega arith) (omega arith) (omega arith) refl tt
 
 command-lasts : (heard count n : ℕ) (mark bit alarm : Bool) → count + suc n ≤ 8 → SelectLasts n (commandBit heard count mark bit alarm)
 unfolding commandBit Lasts

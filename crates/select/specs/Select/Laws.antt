@@ -5,6 +5,7 @@ use Prim.Native.Nat.{ℕ, _+_, _<_, _≤_}
 use borrow.Author.Tests.{lt-ltb, le-ltb}
 use lib.Dec.{ltb, eqb}
 use Rattle.bits.specs.Bits.{bitOf, shiftIn}
+use Rattle.bits.specs.Choose.{choice}
 use Rattle.select.specs.Select.{keeps, romCommand, commandBit, following, readBit, heardBit, listens, slotAt, slotOf, endsCommand, asksAlarm}
 use Rattle.select.specs.declared.Choosing.{Choosing}
 use Rattle.select.specs.declared.Choosing.the-variants.{Silent, Command, Reading, Matching, Giving, Complementing, Awaiting, Selected}
@@ -21,6 +22,18 @@ pub command-last : (heard count : ℕ) (mark bit alarm : Bool) → 7 ≤ count �
     commandBit heard count mark bit alarm ≡ romCommand (shiftIn 8 heard bit) mark alarm
 unfolding commandBit
 command-last heard count mark bit alarm h = rw (le-ltb _ _ h)
+
+-- what holds of where ROM commands lead holds of every command byte's
+pub command-cases : (P : Choosing → Type 0) (byte : ℕ) (mark alarm : Bool) → P (Reading 0) → P (Matching 0) → P (Giving 0) → P Selected → P Silent →
+    P (romCommand byte mark alarm .choosing)
+unfolding romCommand
+command-cases P byte mark alarm reading matching giving selected silent =
+    let Q : Select → Type 0 = λ s. P (s .choosing) in
+    choice Q (eqb byte 0x33) reading
+    (choice Q (eqb byte 0x55) matching
+    (choice Q (eqb byte 0xF0) giving
+    (choice Q (eqb byte 0xEC) (choice P alarm giving silent)
+    (choice Q (eqb byte 0xCC) selected (choice Q (eqb byte 0xA5) (choice P mark selected silent) silent)))))
 
 pub following-more : (at : ℕ) → at < 63 → following at ≡ at + 1
 unfolding following

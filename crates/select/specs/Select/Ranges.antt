@@ -4,10 +4,11 @@ use mathlib.Core.Bool.{Bool, true, Bool·beq}
 use Prim.Native.Nat.{ℕ, _+_, _<_}
 use native.Mathlib.Omega.{arith}
 use borrow.Author.Tests.{lt-ltb, ltb-true}
-use lib.Dec.{ltb, eqb}
-use Rattle.bits.specs.Choose.{either}
+use lib.Dec.{ltb}
+use Rattle.bits.specs.Choose.{either, choice}
 use Rattle.bits.specs.Bits.{bitOf, shiftIn}
 use Rattle.select.specs.Select.{newSelect, resetSelect, romCommand, commandBit, following, readBit, heardBit, slotAt, slotOf, choosingInRange, selectInRange}
+use Rattle.select.specs.Select.Laws.{command-cases}
 use Rattle.select.specs.declared.Choosing.{Choosing}
 use Rattle.select.specs.declared.Choosing.the-variants.{Silent, Command, Reading, Matching, Giving, Complementing, Awaiting, Selected}
 use Rattle.select.specs.declared.Select.{Select}
@@ -27,15 +28,8 @@ abbrev SelectInRange : Select → Type 0
 SelectInRange select = InRange (select .choosing)
 
 rom-in-range : (byte : ℕ) (mark alarm : Bool) → SelectInRange (romCommand byte mark alarm)
-unfolding romCommand choosingInRange
-rom-in-range byte mark alarm =
-    either SelectInRange (eqb byte 0x33) (λ e. refl)
-    (λ e. either SelectInRange (eqb byte 0x55) (λ e. refl)
-    (λ e. either SelectInRange (eqb byte 0xF0) (λ e. refl)
-    (λ e. either SelectInRange (eqb byte 0xEC) (λ e. either InRange alarm (λ e. refl) (λ e. refl))
-    (λ e. either SelectInRange (eqb byte 0xCC) (λ e. refl)
-    (λ e. either SelectInRange (eqb byte 0xA5) (λ e. either InRange mark (λ e. refl) (λ e. refl))
-    (λ e. refl))))))
+unfolding choosingInRange
+rom-in-range byte mark alarm = command-cases InRange byte mark alarm refl refl refl refl refl
 
 command-in-range : (heard count : ℕ) (mark bit alarm : Bool) → SelectInRange (commandBit heard count mark bit alarm)
 unfolding commandBit choosingInRange
@@ -52,9 +46,7 @@ heard-in-range : (number at : ℕ) (bit : Bool) (next : Choosing) (mark : Bool) 
     SelectInRange (heardBit number at bit next mark)
 unfolding heardBit choosingInRange
 heard-in-range number at bit next mark h =
-    either SelectInRange (Bool·beq (bitOf number at) bit)
-    (λ e. either SelectInRange (ltb at 63) (λ e. h) (λ e. refl))
-    (λ e. refl)
+    choice SelectInRange (Bool·beq (bitOf number at) bit) (choice SelectInRange (ltb at 63) h refl) refl
 
 -- a slot keeps the ranges
 pub slot-in-range : (select : Select) (number : ℕ) (bit alarm : Bool) → selectInRange select ≡ true →
@@ -68,7 +60,7 @@ slot-in-range select number bit alarm h = at (select .choosing) (select .mark) h
     at : (k : Choosing) (mark : Bool) → InRange k → InRange (slotAt k mark number bit alarm .select .choosing)
     at Silent mark h = refl
     at (Command heard count) mark h = command-in-range heard count mark bit alarm
-    at (Reading n) mark h = either InRange (ltb n 63) (λ e. step n h) (λ e. refl)
+    at (Reading n) mark h = choice InRange (ltb n 63) (step n h) refl
     at (Matching n) mark h = heard-in-range number n bit (Matching (following n)) mark (step n h)
     at (Giving n) mark h = h
     at (Complementing n) mark h = h

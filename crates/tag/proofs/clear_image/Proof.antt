@@ -18,28 +18,10 @@ Inv-loop image₀ i₀ image i = (i ≤ length image₀) × (image ≡ replicate
 abbrev μ-loop : tie.MeasureT-loop
 μ-loop image₀ i₀ image i = length image₀ - i
 
-loop-holds : tie.Need-loop-holds Inv-loop μ-loop
-loop-holds c = (omega arith, fill-none _ 0, refl)
-
-slice-write-image : tie.Need-slice-write-image Inv-loop μ-loop
-slice-write-image c = omega arith
-
-add-i : tie.Need-add-i Inv-loop μ-loop
-add-i c = omega arith
-
-loop-less : tie.Need-loop-less Inv-loop μ-loop
-loop-less c = omega arith
-
 loop-again : tie.Need-loop-again Inv-loop μ-loop
 loop-again c =
     let filled = fill-more (c .before .loop .i) 0 (c .before .before .before .args .image .now) (omega arith) in
     (omega arith, rw (c .before .loop .inv .1, filled), rw (length-set, c .before .loop .inv .2))
-
-poke-requires : tie.Need-poke-requires Inv-loop μ-loop
-poke-requires c κs = search needs
-
-same-length : tie.Need-same-length Inv-loop μ-loop
-same-length c = rw (c .before .before .poke .ensures, length-set, c .before .before .before .before .before .loop .inv .2)
 
 returns : tie.Need-returns Inv-loop μ-loop
 unfolding newImage
@@ -51,14 +33,8 @@ returns c =
 pub clear-image-spec : {M : Type 1} → statement M
 clear-image-spec =
     tie.close
-    (tie.spec
-    Inv-loop
-    μ-loop
-    loop-holds
-    slice-write-image
-    add-i
-    loop-less
-    loop-again
-    poke-requires
-    same-length
+    (tie.spec Inv-loop μ-loop
+    (λ c. (omega arith, fill-none _ 0, refl))
+    (λ c. omega arith) (λ c. omega arith) (λ c. omega arith) loop-again (search needs)
+    (λ c. rw (c .before .before .poke .ensures, length-set, c .before .before .before .before .before .loop .inv .2))
     returns)

@@ -1,22 +1,26 @@
 -- A Conditional Search and two slots more: a tag with an alarm flag set sends the first bit of its number and its complement, one
 -- with none is silent; no field comes to either. Assumes nothing.
-use mathlib.Core.Path.{_≡_, refl, sym, ap, _∙_}
+use mathlib.Core.Logic.{_≢_}
+use mathlib.Core.Path.{_≡_, sym, ap, _∙_}
 use mathlib.Core.Bool.{Bool, true, false, not, and-eq-true-iff, true≢false}
 use mathlib.Core.List.{List, [], _∷_, _++_, map}
 use Prim.Native.Nat.{ℕ}
+use borrow.Author.Tests.{not-true}
 use lib.Dec.{eqb}
-use Rattle.bits.specs.Bits.{digit, bitsOf}
+use Rattle.bits.specs.Bits.{bitsOf}
+use Rattle.bits.specs.Bits.Laws.{digit-one}
 use Rattle.exchange.specs.Runs.Laws.{run-choosing}
 use Rattle.image.specs.Answers.{alarmed}
+use Rattle.image.specs.Registers.{readPassword, fullPassword}
 use Rattle.memory.specs.declared.Question.{Question}
 use Rattle.select.specs.declared.Select.{Select}
 use Rattle.select.specs.Runs as runs
 use Rattle.select.specs.Select.{slotOf, isSelected}
 use Rattle.tag.specs.Tag.{answerTo}
-use Rattle.promises.specs.Demand3.{NoPassword}
+use Rattle.promises.specs.Demand3.{NoPassword, EndsField}
 use Rattle.promises.specs.Line.Slots.{withExchange, answersOf, run-slots, slots-quiet}
 use Rattle.promises.specs.Runs.{State, Event, after, Ran, run, Always, OnSlots}
-use Rattle.promises.specs.Runs.Laws.{Sound, sound-after, always-map}
+use Rattle.promises.specs.Runs.Laws.{Sound, sound-after, always-map, on-slots}
 
 -- ECh, and two slots with the line released
 abbrev pub search : List Bool
@@ -31,11 +35,7 @@ choosingLine u bits = runs.run (u .tag .exchange .select) (u .tag .exchange .num
 
 alarm-known : (u : State) → eqb (answersOf u Question.Alarm) 1 ≡ alarmed (u .image)
 unfolding answerTo
-alarm-known u = by (alarmed (u .image))
-  where
-    by : (b : Bool) → eqb (digit b) 1 ≡ b
-    by true = refl
-    by false = refl
+alarm-known u = digit-one (alarmed (u .image))
 
 -- the tag with another place of choosing
 abbrev choosingAt : State → Select → State
@@ -76,17 +76,12 @@ never-chosen u (bit ∷ bits) sound still =
     let unchosen = not-true (isSelected (u .tag .exchange .select)) (both .0) in
     let next = after u (Event.slot bit) in
     (unchosen, never-chosen next bits (sound-after (Event.slot bit) sound) (rw (choosing-after u bit sound unchosen) (both .1)))
-  where
-    not-true : (b : Bool) → not b ≡ true → b ≡ false
-    not-true true e = sym e
-    not-true false e = refl
 
 pub choosing-carries-none : (i j : List ℕ) (u : State) (bits : List Bool) → Sound u → Choosing u bits →
     Always (λ v e. NoPassword i v e × NoPassword j v e) u (map Event.slot bits)
 choosing-carries-none i j u bits sound still =
-    always-map (λ v e h. (by i v e h, by j v e h)) u (map Event.slot bits) (never-chosen u bits sound still)
+    always-map (λ v e h. (on-slots (none i) v e h, on-slots (none j) v e h)) u (map Event.slot bits) (never-chosen u bits sound still)
   where
-    by : (image : List ℕ) (v : State) (e : Event) → Unchosen v e → NoPassword image v e
-    by image v (Event.slot bit) unchosen = λ field ends. absurd (true≢false (sym (ends .chosen) ∙ unchosen))
-    by image v Event.reset unchosen = tt
-    by image v (Event.tick reading) unchosen = tt
+    none : (image : List ℕ) (v : State) (bit : Bool) → isSelected (v .tag .exchange .select) ≡ false → (field : ℕ)
+        → EndsField (v .tag .exchange) bit field → (field ≢ readPassword image) × (field ≢ fullPassword image)
+    none image v bit unchosen field ends = absurd (true≢false (sym (ends .chosen) ∙ unchosen))

@@ -7,13 +7,12 @@ use mathlib.Core.Logic.{_≢_}
 use Prim.Native.Nat.{ℕ, _^_, _<_}
 use native.Mathlib.Omega.{arith}
 use lib.ListN.{getD}
-use Rattle.bits.specs.Bits.{bitOf, bitsOf}
+use Rattle.bits.specs.Bits.{bitOf, bitsOf, released}
 use Rattle.dump.specs.Lines.{bytesFrom}
 use Rattle.exchange.specs.Exchange.{slotOf}
 use Rattle.exchange.specs.Runs.{Way, waySlots, wayLine, wayMark}
 use Rattle.image.specs.Answers.{mayRead}
 use Rattle.image.specs.Sent.{sentAt}
-use Rattle.memory.specs.Runs.{released}
 use Rattle.select.specs.Select.{isChosen, isSelected}
 use Rattle.tag.specs.Tag.{slotted}
 use Rattle.promises.specs.Demand3.Needed.Owner.{skipping}

@@ -8,12 +8,12 @@ use Prim.Native.Nat.{ℕ, _+_, _%_, _<_}
 use native.Mathlib.Omega.{arith}
 use lib.ListN.{length}
 use Rattle.bits.specs.Bits.{bitsOf}
+use Rattle.bits.specs.Bytes.{Bytes}
 use Rattle.exchange.specs.declared.Exchange.{Exchange}
 use Rattle.exchange.specs.Exchange as exchange
 use Rattle.exchange.specs.Runs.{Way, waySlots, wayMark}
 use Rattle.image.specs.Answers.{checked, mayCopy}
 use Rattle.image.specs.Answers.Laws.{control-open, copy-idle}
-use Rattle.image.specs.Fields.Laws.{Bytes}
 use Rattle.image.specs.Registers.{mip}
 use Rattle.image.specs.Stored.{storedRun}
 use Rattle.memory.specs.declared.Control.{Control}

@@ -5,7 +5,7 @@ use mathlib.Core.Bool.{Bool, true, false, and-eq-true-iff}
 use mathlib.Core.List.{List, [], _∷_, _++_, map, flatMap}
 use Prim.Native.Nat.{ℕ, suc, _≤_}
 use lib.ListN.{take, drop}
-use Rattle.bits.specs.Bits.{bitOf, bitsOf, shiftIn}
+use Rattle.bits.specs.Bits.{bitOf, bitsOf, shiftIn, slotsOf}
 use Rattle.exchange.specs.declared.Exchange.{Exchange}
 use Rattle.exchange.specs.Exchange.{asks, slotOf}
 use Rattle.image.specs.Registers.{mip, passwordControl}
@@ -17,7 +17,6 @@ use Rattle.memory.specs.Bus.{statusByte}
 use Rattle.memory.specs.Field.{asHeld, toTheEnd, copies, fieldAsks, judged, gatheredBit, afterReading, afterControlling}
 use Rattle.memory.specs.Hear.{commandStage, addressHeard, confirmed, heardWhole, heardBit}
 use Rattle.memory.specs.Memory as memory
-use Rattle.memory.specs.Runs.{slotsOf}
 use Rattle.select.specs.Select as select
 use Rattle.promises.specs.Demand3.{EndsField, Forces, Converted, JustReset, Alike}
 use Rattle.promises.specs.Demand3.Needed.{Sometime, Offers, OffersCopy, Tried}

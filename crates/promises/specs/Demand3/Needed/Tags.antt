@@ -2,21 +2,21 @@
 -- so that no alarm flag is set, and has bytes of its own in user memory and other passwords. Both wait after a reset with the
 -- same scratchpad. Assumes nothing.
 use mathlib.Core.Path.{_≡_, refl, ap, _∙_}
-use mathlib.Core.Bool.{Bool, true, false, _&&_, xor}
+use mathlib.Core.Bool.{Bool, true, false, xor}
 use mathlib.Core.List.{List, [], _∷_, _++_}
 use mathlib.Core.Logic.{_≢_, inr}
-use Prim.Native.Nat.{ℕ, zero, suc, _<_}
+use Prim.Native.Nat.{ℕ, _<_}
 use native.Mathlib.Omega.{arith}
-use lib.Dec.{T, ltb, ltb→lt}
-use lib.Ieee.Fits.{and-l, and-r, and-i}
+use lib.Ieee.Fits.{and-i}
 use lib.ListN.{length, getD, replicate, length-replicate}
 use lib.Seq.{getD-set-same, getD-set-other}
 use Rattle.bits.specs.Bits.{bitOf, bitsOf}
+use Rattle.bits.specs.Bytes.{byte-blank, bytes-of}
 use Rattle.crc.specs.Crc.{taps, crcBit, crcBits, mask8, crc8Of, goodCrc}
 use Rattle.image.specs.Answers.{alarmed, checked}
 use Rattle.image.specs.Answers.Laws.{alarmed-kept, checked-kept}
 use Rattle.image.specs.Fields.{flagAt, apart}
-use Rattle.image.specs.Fields.Laws.{Bytes, apart-of, byte-blank}
+use Rattle.image.specs.Fields.Laws.{apart-of}
 use Rattle.image.specs.Keeps.{Keeps, flag-kept}
 use Rattle.image.specs.Map.Laws.{region-user}
 use Rattle.image.specs.Registers.{mip}
@@ -35,15 +35,6 @@ use Rattle.promises.specs.Demand3.Needed.Owner.{Owned, stored, stored-ow
 use Rattle.promises.specs.Runs.{State, leaves, Reached}
 
 -- ---- bytes
-
-abbrev allBytes : List ℕ → Bool
-allBytes [] = true
-allBytes (b ∷ bs) = ltb b 256 && allBytes bs
-
-bytes-of : (bs : List ℕ) → T (allBytes bs) → Bytes bs
-bytes-of [] t k = omega arith
-bytes-of (b ∷ bs) t zero = ltb→lt b 256 (and-l (ltb b 256) (allBytes bs) t)
-bytes-of (b ∷ bs) t (suc k) = bytes-of bs (and-r (ltb b 256) (allBytes bs) t) k
 
 -- 0227h-023Fh: AAh, a read password and a full password of eight equal bytes each, and eight bytes that no Copy writes
 abbrev keysOf : ℕ → ℕ → List ℕ

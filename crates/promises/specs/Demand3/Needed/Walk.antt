@@ -16,16 +16,16 @@ use Rattle.memory.specs.declared.Guarded.{Guarded}
 use Rattle.memory.specs.declared.Question.{Question}
 use Rattle.memory.specs.Field.{fieldQuestion, fieldAsks}
 use Rattle.memory.specs.Memory as memory
+use Rattle.mission.specs.Mission.Frames.{mip-ticked, mip-forced}
 use Rattle.select.specs.declared.Choosing.{Choosing}
 use Rattle.select.specs.declared.Choosing.the-variants.{Silent, Command, Reading, Matching, Giving, Complementing, Awaiting, Selected}
 use Rattle.select.specs.Select.{isChosen, isSelected, endsCommand}
 use Rattle.tag.specs.Tag.{answerTo, slotted, resetTag, tickTag}
 use Rattle.promises.specs.Demand3.{EndsField, Conditional, Alike, NoPassword, AlarmsAgree, Begins, Premises}
-use Rattle.promises.specs.Demand3.Image.{mip-ticked, mip-forced}
-use Rattle.promises.specs.Demand3.Left.{NoFull, Guards, guards-checked, flag-stays, tick-cases}
+use Rattle.promises.specs.Demand3.Left.{Guards, guards-checked, flag-stays, tick-cases, no-full}
 use Rattle.promises.specs.Demand3.Reset.{begins-guarded}
 use Rattle.promises.specs.Runs.{State, Event, after, run, Always, Together, OnSlots}
-use Rattle.promises.specs.Runs.Laws.{slot-happens, reset-happens, always-map}
+use Rattle.promises.specs.Runs.Laws.{slot-happens, reset-happens, always-map, on-slots}
 
 -- ---- what is computed
 
@@ -139,12 +139,8 @@ no-password image wrong none u (Event.tick reading) h = tt
 
 module _ (image : List ℕ) (mission : Bool) (wrong : ℕ) (none : NoneOf wrong image) where
   denies-after : (u : State) (e : Event) → Denies image mission u → Harmless wrong u e → Denies image mission (after u e)
-  denies-after u e d h = flag-stays 0x0215 1 mission mip-ticked mip-forced image u e d (no-full u e h)
-    where
-      no-full : (u : State) (e : Event) → Harmless wrong u e → NoFull image u e
-      no-full u (Event.slot bit) h = λ field ends. no-password image wrong none u (Event.slot bit) h field ends .1
-      no-full u Event.reset h = tt
-      no-full u (Event.tick reading) h = tt
+  denies-after u e d h =
+      flag-stays 0x0215 1 mission mip-ticked mip-forced image u e d (no-full image u e (no-password image wrong none u e h))
 
   -- and its exchange goes on with the answer 0
   exchange-after : (u : State) (e : Event) → Denies image mission u → Harmless wrong u e →
@@ -180,12 +176,7 @@ unconditional-agree s [] t [] none alike = tt
 unconditional-agree s [] t (f ∷ fs) none alike = absurd alike
 unconditional-agree s (e ∷ es) t [] none alike = absurd alike
 unconditional-agree s (e ∷ es) t (f ∷ fs) none alike =
-    (by e (none .0), unconditional-agree (after s e) es (after t f) fs (none .1) (alike .1))
-  where
-    by : (e : Event) → Unconditional s e → AlarmsAgree s e t f
-    by (Event.slot bit) never = λ conditional. absurd (never conditional)
-    by Event.reset never = tt
-    by (Event.tick reading) never = tt
+    (on-slots (λ u bit never conditional. absurd (never conditional)) s e (none .0), unconditional-agree (after s e) es (after t f) fs (none .1) (alike .1))
 
 -- any two tags, and one field that is none of their passwords
 pub harmless-premises : (s t : State) (E F : List Event) (wrong : ℕ) → Begins s t E F →

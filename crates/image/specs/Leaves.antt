@@ -3,15 +3,20 @@
 use mathlib.Core.Path.{_≡_, refl, sym, _∙_}
 use mathlib.Core.Bool.{Bool, true, false, not, _&&_, _||_}
 use mathlib.Core.List.{List, [], _∷_}
-use mathlib.Core.Logic.{⊎-elim}
-use Prim.Native.Nat.{ℕ, _+_}
-use lib.Dec.{T, leb, leb→le, ltb, eqb, eqb→eq}
+use mathlib.Core.Logic.{⊎-elim, inl, dite}
+use Prim.Native.Nat.{ℕ}
+use lib.Dec.{T, ltb, eqb, eqb→eq}
 use lib.Ieee.Fits.{and-l, and-r, and-i}
-use lib.ListN.{getD, set}
-use Rattle.bits.specs.Choose.{if_then_else_}
+use lib.ListN.{getD, set, length, length-set}
+use lib.Seq.{set-out, getD-set-same, getD-set-other}
+use native.Mathlib.Decide.{ℕ-discrete, decLt}
+use native.Mathlib.Omega.{arith}
+use Rattle.bits.specs.Bits.{bitOf}
+use Rattle.bits.specs.Choose.{if_then_else_, choice}
+use Rattle.bits.specs.Tests.{or-cases, or-of}
 use Rattle.image.specs.Fields.{wordAt, putWord, flagAt, putFlag, apart}
-use Rattle.image.specs.Fields.Laws.{either, apart-sym, apart-part, flag-putFlag-other}
-use Rattle.image.specs.Keeps.{Run, inside, free, covers, coversAll, Keeps, keeps-same, keeps-then, keeps-wider, keeps-set, keeps-putWord, keeps-putFlag, word-kept, flag-kept}
+use Rattle.image.specs.Fields.Laws.{flag-putFlag-other}
+use Rattle.image.specs.Keeps.{Run, free, covers, coversAll, Keeps, keeps-same, keeps-then, keeps-wider, keeps-putWord, keeps-putFlag, word-kept, flag-kept, free-covered, free-all}
 
 abbrev pub Flag : Type 0
 Flag = ℕ × ℕ
@@ -45,8 +50,7 @@ module _ {runs : List Run} {flags : List Flag} where
 
   pub leaves-choice : (t : Bool) {a b c : List ℕ} → Leaves runs flags a b → Leaves runs flags a c
       → Leaves runs flags a (if t then b else c)
-  leaves-choice true p q = p
-  leaves-choice false p q = q
+  leaves-choice t p q = choice (Leaves runs flags _) t p q
 
   pub leaves-sym : {a b : List ℕ} → Leaves runs flags a b → Leaves runs flags b a
   leaves-sym p =
@@ -61,10 +65,6 @@ module _ {runs : List Run} {flags : List Flag} where
       → wordAt after at n ≡ wordAt before at n
   word-left at n p t = word-kept at n (p .keeps) t
 
-  pub byte-left : {before after : List ℕ} (at : ℕ) → Leaves runs flags before after → T (free (touched runs flags) at 1)
-      → getD after at 0 ≡ getD before at 0
-  byte-left at p t = p .keeps .bytes at t
-
 -- ---- more runs and flags may be named than a change touches
 
 -- this flag is one of these
@@ -77,33 +77,12 @@ abbrev pub reaches : List Run → List Flag → List Flag → Bool
 reaches runs flags [] = true
 reaches runs flags (g ∷ gs) = (covers runs (g .0, 1) || among flags g) && reaches runs flags gs
 
--- what no run of a list touches, none touches that the list covers
-free-covered : (ss : List Run) (r : Run) (k : ℕ) → T (covers ss r) → T (free ss k 1) → T (apart (r .0) (r .1) k 1)
-free-covered [] r k c f = absurd c
-free-covered (s ∷ ss) r k c f =
-    ⊎-elim here (λ d. free-covered ss r k d (and-r (apart (s .0) (s .1) k 1) (free ss k 1) f))
-    (either (inside s r) (covers ss r) c)
-  where
-    here : T (inside s r) → T (apart (r .0) (r .1) k 1)
-    here i =
-        apart-sym k 1 (r .0) (r .1)
-        (apart-part k 1 (s .0) (s .1) (r .0) (r .1)
-        (leb→le _ _ (and-l (leb (s .0) (r .0)) (leb (r .0 + r .1) (s .0 + s .1)) i))
-        (leb→le _ _ (and-r (leb (s .0) (r .0)) (leb (r .0 + r .1) (s .0 + s .1)) i))
-        (apart-sym (s .0) (s .1) k 1 (and-l (apart (s .0) (s .1) k 1) (free ss k 1) f)))
-
-free-all : (ss rs : List Run) (k : ℕ) → T (coversAll ss rs) → T (free ss k 1) → T (free rs k 1)
-free-all ss [] k t f = tt
-free-all ss (r ∷ rs) k t f =
-    and-i (apart (r .0) (r .1) k 1) (free rs k 1) (free-covered ss r k (and-l (covers ss r) (coversAll ss rs) t) f)
-    (free-all ss rs k (and-r (covers ss r) (coversAll ss rs) t) f)
-
 spares-among : (fs : List Flag) (g : Flag) (at i : ℕ) → T (among fs g) → T (spares fs at i)
     → T (apart (g .0) 1 at 1 || not (eqb (g .1) i))
 spares-among [] g at i m s = absurd m
 spares-among (f ∷ fs) g at i m s =
     ⊎-elim here (λ d. spares-among fs g at i d (and-r (apart (f .0) 1 at 1 || not (eqb (f .1) i)) (spares fs at i) s))
-    (either (eqb (f .0) (g .0) && eqb (f .1) (g .1)) (among fs g) m)
+    (or-cases (eqb (f .0) (g .0) && eqb (f .1) (g .1)) (among fs g) m)
   where
     here : T (eqb (f .0) (g .0) && eqb (f .1) (g .1)) → T (apart (g .0) 1 at 1 || not (eqb (g .1) i))
     here e =
@@ -111,18 +90,14 @@ spares-among (f ∷ fs) g at i m s =
         let bit : f .1 ≡ g .1 = eqb→eq _ _ (and-r (eqb (f .0) (g .0)) (eqb (f .1) (g .1)) e) in
         rw (← place, ← bit) (and-l (apart (f .0) 1 at 1 || not (eqb (f .1) i)) (spares fs at i) s)
 
-or-l : (p q : Bool) → T p → T (p || q)
-or-l true q t = tt
-or-l false q t = absurd t
-
 spares-all : (ss : List Run) (fs gs : List Flag) (at i : ℕ) → T (reaches ss fs gs) → T (free ss at 1) → T (spares fs at i)
     → T (spares gs at i)
 spares-all ss fs [] at i t f s = tt
 spares-all ss fs (g ∷ gs) at i t f s =
     and-i (apart (g .0) 1 at 1 || not (eqb (g .1) i)) (spares gs at i)
-    (⊎-elim (λ c. or-l (apart (g .0) 1 at 1) (not (eqb (g .1) i)) (free-covered ss (g .0, 1) at c f))
+    (⊎-elim (λ c. or-of (apart (g .0) 1 at 1) (not (eqb (g .1) i)) (inl (free-covered ss (g .0, 1) at c f)))
     (λ m. spares-among fs g at i m s)
-    (either (covers ss (g .0, 1)) (among fs g) (and-l (covers ss (g .0, 1) || among fs g) (reaches ss fs gs) t)))
+    (or-cases (covers ss (g .0, 1)) (among fs g) (and-l (covers ss (g .0, 1) || among fs g) (reaches ss fs gs) t)))
     (spares-all ss fs gs at i (and-r (covers ss (g .0, 1) || among fs g) (reaches ss fs gs) t) f s)
 
 -- the first runs and flags take in the second
@@ -144,9 +119,6 @@ leaves-wider {ss} {rs} {fs} {gs} t p =
 pub leaves-keeps : {runs : List Run} {before after : List ℕ} → Keeps runs before after → Leaves runs [] before after
 leaves-keeps p = record { keeps = p; bits = λ at i f s b. flag-kept at i p f }
 
-pub leaves-set : (image : List ℕ) (at b : ℕ) → Leaves ((at, 1) ∷ []) [] image (set image at b)
-leaves-set image at b = leaves-keeps (keeps-set image at b)
-
 pub leaves-putWord : (image : List ℕ) (at n v : ℕ) → Leaves ((at, n) ∷ []) [] image (putWord image at n v)
 leaves-putWord image at n v = leaves-keeps (keeps-putWord image at n v)
 
@@ -155,4 +127,28 @@ leaves-putFlag image at i b t =
     record {
       keeps = keeps-putFlag image at i b;
       bits = λ at' j f s u. flag-putFlag-other image at i b at' j t u (and-l (apart at 1 at' 1 || not (eqb i j)) true s);
+    }
+
+-- ---- two images that differ only there differ only there after the same store to both
+
+-- what two images have alike at a place they have alike after it
+same-set : {X : Type 0} (f : ℕ → X) (a b : List ℕ) (at v k : ℕ) → length b ≡ length a → f (getD b k 0) ≡ f (getD a k 0) →
+    f (getD (set b at v) k 0) ≡ f (getD (set a at v) k 0)
+same-set f a b at v k long h =
+    dite (ℕ-discrete k at)
+    (λ e. dite (decLt at (length a))
+    (λ inside. rw (e, getD-set-same a at v 0 inside, getD-set-same b at v 0 (omega arith)))
+    (λ outside. rw (set-out a at v (omega arith), set-out b at v (omega arith)) h))
+    (λ ne. rw (getD-set-other a at k v 0 ne, getD-set-other b at k v 0 ne) h)
+
+pub leaves-set-both : {runs : List Run} {flags : List Flag} {a b : List ℕ} (at v : ℕ) → Leaves runs flags a b
+    → Leaves runs flags (set a at v) (set b at v)
+unfolding flagAt
+leaves-set-both {a} {b} at v p =
+    record {
+      keeps = record {
+        lengths = length-set b at v ∙ p .keeps .lengths ∙ sym (length-set a at v);
+        bytes = λ k t. same-set (λ n. n) a b at v k (p .keeps .lengths) (p .keeps .bytes k t);
+      };
+      bits = λ k i t s u. same-set (λ n. bitOf n i) a b at v k (p .keeps .lengths) (p .bits k i t s u);
     }

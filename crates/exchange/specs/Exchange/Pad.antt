@@ -1,0 +1,23 @@
+-- A scratchpad of 32 bytes stays one, from a new tag on. Assumes nothing.
+use Prim.Native.Nat.{ℕ}
+use mathlib.Core.Bool.{Bool}
+use native.Mathlib.Omega.{arith}
+use lib.ListN.{length-replicate}
+use Rattle.bits.specs.Bytes.{bytes-blank}
+use Rattle.memory.specs.Memory.Pad.{Padded, slot-padded}
+use Rattle.exchange.specs.declared.Exchange.{Exchange}
+use Rattle.exchange.specs.Exchange.{newExchange, afterReset, slotOf}
+use Rattle.exchange.specs.Exchange.Laws.{slot-cases}
+
+abbrev pub PaddedIn : Exchange → Type 0
+PaddedIn x = Padded (x .held) (x .bus)
+
+pub new-padded : (number : ℕ) → PaddedIn (newExchange number)
+new-padded number = record { size = length-replicate {A = ℕ} 32 0; bytes = bytes-blank 32; heard = tt }
+
+pub reset-padded : (x : Exchange) → PaddedIn x → PaddedIn (afterReset x)
+reset-padded x p = record { size = p .size; bytes = p .bytes; heard = omega arith }
+
+pub exchange-padded : (x : Exchange) (bit : Bool) (answer : ℕ) → PaddedIn x → PaddedIn (slotOf x bit answer .exchange)
+exchange-padded x bit answer p =
+    slot-cases (λ q s. PaddedIn (s answer .exchange)) x bit (slot-padded (x .held) (x .bus) p bit answer) p
