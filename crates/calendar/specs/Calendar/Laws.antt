@@ -8,6 +8,7 @@ use native.Mathlib.Omega.{arith}
 use borrow.Author.Tests.{le-leb, leb-true, eq-eqb, eqb-true, ne-eqb, eqb-false, not-false}
 use lib.Dec.{eqb}
 use Rattle.bits.specs.Choose.{either}
+use Rattle.bits.specs.Tests.{neither}
 use Rattle.calendar.specs.declared.Clock.{Clock}
 use Rattle.calendar.specs.Calendar.{Digits, isValid, plusOne, stepField, carried, stepHours, nextSecond, clockAfter}
 
@@ -37,17 +38,9 @@ between-valid b = simp (le-leb _ _ (b .digits .tens), le-leb _ _ (b .digits .one
 
 -- ---- one field's step
 
-or-left : (a b : Bool) → (a || b) ≡ false → a ≡ false
-or-left true b e = e
-or-left false b e = refl
-
-or-right : (a b : Bool) → (a || b) ≡ false → b ≡ false
-or-right true b e = absurd (true≢false e)
-or-right false b e = e
-
 -- a field that does not return to its lowest is valid
 pub goes-on-between : (lowest last byte : ℕ) → (eqb byte last || not (isValid lowest last byte)) ≡ false → Between lowest last byte
-goes-on-between lowest last byte e = valid-between (not-false _ (or-right (eqb byte last) _ e))
+goes-on-between lowest last byte e = valid-between (not-false _ (neither (eqb byte last) _ e .1))
 
 pub step-last : (lowest last : ℕ) → stepField lowest last last ≡ record { byte = lowest; carry = true }
 unfolding stepField
@@ -78,7 +71,7 @@ unfolding stepField
 step-cases lowest last byte =
     either (λ s. (s ≡ record { byte = lowest; carry = true }) ⊎ (Between lowest last byte × byte < last × s ≡ record { byte = plusOne byte; carry = false }))
     (eqb byte last || not (isValid lowest last byte)) (λ e. inl refl)
-    (λ e. let b = goes-on-between lowest last byte e in inr (b, omega (arith, b, eqb-false byte last (or-left _ _ e)), refl))
+    (λ e. let b = goes-on-between lowest last byte e in inr (b, omega (arith, b, eqb-false byte last (neither _ _ e .0)), refl))
 
 -- a field is never past its last value after a step
 pub step-le : {lowest last : ℕ} (byte : ℕ) → last % 16 ≤ 9 → lowest ≤ last → stepField lowest last byte .byte ≤ last

@@ -50,29 +50,37 @@ shared-slice-read-event c = omega (arith, room (c .before .before .before .befor
 
 add-printed : tie.Need-add-printed Inv-loop μ-loop
 add-printed c =
-    let l = c .before .before .before .before .before .before .before .before .before .before .before .before .before .before .before .loop in
-    omega (arith, room (c .before .before .before .before .before .before .before .before .before .before .before .before .before), short (c .before .before .before .before .before .before .before .before .before .before .before .before .before), l .inv .3 (c .before .before .before .before .before .before .before .before .before .before .before .before .before .before .loop-test .taken), c .before .before .put-answer .ensures .0, answer-length (c .before .before .before .before .number .result) (c .before .before .before .before .before .before .before .event .result .line))
+    let number = c .before .before .before .before in
+    let event = number .before .before .before in
+    let turn = event .before .before .before .before .before .before in
+    let printed = turn .before .before .loop .inv .3 (turn .before .loop-test .taken) in
+    omega (arith, room turn, short turn, printed, c .before .before .put-answer .ensures .0, answer-length (number .number .result) (event .event .result .line))
 
 add-i : tie.Need-add-i Inv-loop μ-loop
-add-i c = omega (arith, room (c .before .before .before .before .before .before .before .before .before .before .before .before .before .before), short (c .before .before .before .before .before .before .before .before .before .before .before .before .before .before))
+add-i c =
+    let turn = c .before .before .before .before .before .before .before .before .before .before .before .before .before .before in
+    omega (arith, room turn, short turn)
 
 loop-less : tie.Need-loop-less Inv-loop μ-loop
 loop-less c = omega (arith, room (c .before .before .before .before .before .before .before .before .before .before .before .before .before .before))
 
 loop-again : tie.Need-loop-again Inv-loop μ-loop
 loop-again c =
-    let l = c .before .before .before .before .before .before .before .before .before .before .before .before .before .before .before .before .loop in
-    let number = c .before .before .before .before .before .number in
+    let turn = c .before .before .before .before .before .before .before .before .before .before .before .before .before .before in
+    let l = turn .before .before .loop in
+    let block = turn .before .before .before .before .before .before .args .block .now in
+    let read = c .before .before .before .before .before .before .before .before .before .before .before .reading-of .ensures in
     let event = c .before .before .before .before .before .before .before .before .event in
+    let number = c .before .before .before .before .before .number in
     let put = c .before .before .before .put-answer in
-    let accepted = c .before .before .before .before .before .before .before .before .before .before .before .before .before .before .before .loop-test .taken in (
-      room (c .before .before .before .before .before .before .before .before .before .before .before .before .before .before),
+    let accepted = turn .before .loop-test .taken in (
+      room turn,
       event .kept .0 ∙ l .inv .1,
       put .kept .0 ∙ l .inv .2,
       λ zero. omega (arith, l .inv .3 accepted, put .ensures .0, bit-length (number .result) (event .result .line) zero),
-      put-group (l .image) (l .now) (c .before .before .before .before .before .before .before .before .before .before .before .before .before .before .before .before .before .before .before .before .args .block .now) (l .out) (l .i) (l .printed) (room (c .before .before .before .before .before .before .before .before .before .before .before .before .before .before))
-          _ (c .before .before .before .before .before .before .before .before .before .before .before .reading-of .ensures) _ (event .ensures .0) _ (event .ensures .1) _ (number .ensures) _ (put .ensures .1) _ (put .ensures .0)
-          ∙ rw (following-on (l .refusal) (l .image) (l .now) (drop (l .i) (c .before .before .before .before .before .before .before .before .before .before .before .before .before .before .before .before .before .before .before .before .args .block .now)) accepted) at (l .inv .4),
+      put-group (l .image) (l .now) block (l .out) (l .i) (l .printed) (room turn) _ read _ (event .ensures .0) _ (event .ensures .1)
+          _ (number .ensures) _ (put .ensures .1) _ (put .ensures .0)
+          ∙ rw (following-on (l .refusal) (l .image) (l .now) (drop (l .i) block) accepted) at (l .inv .4),
     )
 
 returns : tie.Need-returns Inv-loop μ-loop
