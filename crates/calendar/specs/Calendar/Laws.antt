@@ -1,6 +1,6 @@
 -- What a field's step gives, for any lowest and last value, and n seconds on. Assumes nothing.
 use mathlib.Core.Path.{_≡_, refl, ap}
-use mathlib.Core.Bool.{Bool, true, false, not, _||_, and-eq-true-iff, or-true, true≢false}
+use mathlib.Core.Bool.{true, false, not, _||_, and-eq-true-iff, or-true}
 use mathlib.Core.Logic.{_⊎_, inl, inr, ⊎-elim}
 use Prim.Native.Nat.{ℕ, zero, suc, _+_, _/_, _%_, _≤_, _<_}
 use native.Mathlib.Nat.{suc-add, zero-add}
