@@ -11,12 +11,25 @@ use Rattle.play.proofs.put_refusal.Tie as tie
 returns : tie.Need-returns
 unfolding refusalText
 returns c =
-    let told = c .before .before .before .before .before .before .before .before .before .before .before .before .before .before .before .before in
+    let fourth = c .before .before in
+    let third = fourth .before .before .before .before in
+    let second = third .before .before .before .before in
+    let first = second .before .before .before .before in
+    let told = first .before .before in
     let at = told .before .before .before .args .at in
     let one : at + 1 ≡ suc at = omega arith in
     let two : at + 2 ≡ suc (suc at) = omega arith in
     let three : at + 3 ≡ suc (suc (suc at)) = omega arith in
-    rw (c .before .before .poke4 .ensures, c .before .before .before .before .before .before .poke3 .ensures, c .before .before .before .before .before .before .before .before .before .before .poke2 .ensures, c .before .before .before .before .before .before .before .before .before .before .before .before .before .before .poke .ensures, told .refusal-text .ensures, one, two, three)
+    rw (
+      fourth .poke4 .ensures,
+      third .poke3 .ensures,
+      second .poke2 .ensures,
+      first .poke .ensures,
+      told .refusal-text .ensures,
+      one,
+      two,
+      three,
+    )
 
 returns-2 : tie.Need-returns-2
 returns-2 c = sym (sets-past _ _ (refusalText (c .before .before .args .number)) (c .if1 .left))
