@@ -7,4 +7,3 @@ pub mod Registers
 pub mod Answers
 pub mod Keeps
 pub mod Leaves
-pub mod Each

@@ -348,8 +348,8 @@ dock-period-sole k a r s e f p q = p ∙ sym q
 dock-temperature-sole : Sole dock-temperature.Post (λ k r e. r)
 dock-temperature-sole k a r s e f p q = p ∙ sym q
 
-dock-text-put-head-sole : Sole dock-text-put-head.Post (λ k r e. now (e .0))
-dock-text-put-head-sole k a r s e f p q = p ∙ sym q
+dock-text-put-head-sole : Sole dock-text-put-head.Post (λ k r e. with r (now (e .0)))
+dock-text-put-head-sole k a r s e f p q = pair (p .0 ∙ sym (q .0)) (p .1 ∙ sym (q .1))
 
 dock-text-put-entries-sole : Sole dock-text-put-entries.Post (λ k r e. with r (now (e .0)))
 dock-text-put-entries-sole k a r s e f p q = pair (p .0 ∙ sym (q .0)) (p .1 ∙ sym (q .1))

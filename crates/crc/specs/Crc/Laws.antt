@@ -14,23 +14,19 @@ use lib.Dec.{eqb}
 use lib.ListN.{length, getD, drop, drop-of-length-le}
 use lib.Pow.{pow-pos, pow-mono, split, mod-pow-add}
 use lib.Seq.{drop-cons}
-use Rattle.bits.specs.Choose.{if_then_else_}
+use Rattle.bits.specs.Choose.{if_then_else_, choice}
 use Rattle.bits.specs.Bits.{digit, bitOf, bitsOf}
 use Rattle.bits.specs.Bits.Laws.{digit-bit, bit-low, bits-add, bits-mod}
 use Rattle.crc.specs.Crc.{taps, crcBit, crcBits, crcByte, crcRun, bytesOf, mask16, crc16Byte, crc16Run, sentLow, sentHigh, mask8, crc8Of, goodCrc}
 
 -- ---- the register stays below 2 ^ width
 
-choose-lt : {x y m : ℕ} (t : Bool) → x < m → y < m → (if t then x else y) < m
-choose-lt true p q = p
-choose-lt false p q = q
-
 module _ (w : ℕ) {mask : ℕ} (fits : mask < 2 ^ w) where
   pub bit-lt : {r : ℕ} (b : Bool) → r < 2 ^ w → crcBit mask r b < 2 ^ w
   unfolding crcBit
   bit-lt {r} b h =
       let half : r / 2 < 2 ^ w = omega arith in
-      choose-lt (xor (bitOf r 0) b) (xor-lt w mask (r / 2) fits half) half
+      choice (λ (n : ℕ). n < 2 ^ w) (xor (bitOf r 0) b) (xor-lt w mask (r / 2) fits half) half
 
   pub bits-lt : {r : ℕ} (bs : List Bool) → r < 2 ^ w → crcBits mask r bs < 2 ^ w
   unfolding crcBits

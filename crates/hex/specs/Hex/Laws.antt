@@ -1,16 +1,17 @@
 -- Digits and the numbers that they stand for lead back to each other. Assumes nothing.
-use mathlib.Core.Path.{_≡_, refl, sym, ap, _∙_}
+use mathlib.Core.Path.{_≡_, refl, sym, _∙_}
 use mathlib.Core.Bool.{Bool, true, false, and-eq-true-iff, and-false}
 use mathlib.Core.List.{List, [], _∷_}
 use Prim.Native.Nat.{ℕ, zero, suc, _+_, _-_, _*_, _/_, _%_, _≤_, _<_}
-use native.Mathlib.Nat.{mod-mod, add-assoc, add-zero, zero-add, add-suc, suc-add, not-suc-le-zero, le-of-suc-le-suc}
+use native.Mathlib.Nat.{mod-mod, add-assoc}
 use native.Mathlib.Decide.{decLt}
 use native.Mathlib.Omega.{arith}
 use borrow.Author.Tests.{lt-ltb, le-ltb, le-leb, lt-leb, ltb-true}
-use lib.Dec.{ltb}
+use lib.Dec.{ltb, eqb, eqb→eq}
 use lib.ListN.{length, getD, take, drop, length-append, List·getD-eq-default}
 use lib.Seq.{getD-drop, getD-take}
 use Rattle.bits.specs.Choose.{if_then_else_}
+use Rattle.bits.specs.Each.{each-at}
 use Rattle.hex.specs.Hex.{hexDigit, hexOf, nibbleOf, pairOf, pairAt, isByte, byteOf}
 use Rattle.hex.specs.declared.Pair.the-variants.{Byte, Bad}
 
@@ -56,22 +57,10 @@ abbrev pub sixteen : List ℕ
 sixteen =
     0x30 ∷ 0x31 ∷ 0x32 ∷ 0x33 ∷ 0x34 ∷ 0x35 ∷ 0x36 ∷ 0x37 ∷ 0x38 ∷ 0x39 ∷ 0x41 ∷ 0x42 ∷ 0x43 ∷ 0x44 ∷ 0x45 ∷ 0x46 ∷ []
 
-unfoldable digitsFrom : ℕ → ℕ → List ℕ
-digitsFrom n zero = []
-digitsFrom n (suc count) = hexDigit n ∷ digitsFrom (suc n) count
-
-digits-at : (count n i : ℕ) → i < count → getD (digitsFrom n count) i 0 ≡ hexDigit (n + i)
-unfolding digitsFrom
-digits-at zero n i h = absurd (not-suc-le-zero h)
-digits-at (suc count) n zero h = rw add-zero
-digits-at (suc count) n (suc i) h = digits-at count (suc n) i (le-of-suc-le-suc h) ∙ rw (suc-add, add-suc)
-
-all-digits : sixteen ≡ digitsFrom 0 16
-unfolding hexDigit digitsFrom
-all-digits = refl
-
 pub digit-listed : (n : ℕ) → getD sixteen (n % 16) 0 ≡ hexDigit n
-digit-listed n = ap (λ digits. getD digits (n % 16) 0) all-digits ∙ digits-at 16 0 (n % 16) (omega arith) ∙ rw zero-add (digit-mod n)
+unfolding hexDigit
+digit-listed n =
+    eqb→eq _ _ (each-at 16 (λ k. eqb (getD sixteen k 0) (hexDigit k)) tt (n % 16) (omega arith)) ∙ digit-mod n
 
 -- a digit read again
 pub nibble-digit : (n : ℕ) → nibbleOf (hexDigit n) ≡ n % 16

@@ -19,7 +19,7 @@ use Rattle.bits.specs.Bits.{digit, bitOf}
 use Rattle.bits.specs.Bytes.{Bytes, bytes-set, blank, byte-blank}
 use Rattle.bits.specs.Choose.{if_then_else_, either, choice}
 use Rattle.bits.specs.Tests.{or-cases, or-of, beq-eq}
-use Rattle.image.specs.Each.{eachPair, eachPair-at}
+use Rattle.bits.specs.Each.{eachPair, eachPair-at}
 use Rattle.image.specs.Fields.{wordAt, putWord, flagAt, withBit, putFlag, apart}
 
 -- ---- apart

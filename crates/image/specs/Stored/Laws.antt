@@ -14,7 +14,7 @@ use lib.ListN.{length, getD, set, drop, length-set, length-drop, List·getD-eq-d
 use lib.Seq.{getD-set-same, getD-set-other, set-getD, getD-drop}
 use Rattle.bits.specs.Bytes.{Bytes, bytes-set}
 use Rattle.bits.specs.Tests.{or-cases}
-use Rattle.image.specs.Each.{each-at}
+use Rattle.bits.specs.Each.{each-at}
 use Rattle.image.specs.Fields.{apart}
 use Rattle.image.specs.Fields.Laws.{apart-cases, apart-of}
 use Rattle.image.specs.Keeps.{Keeps, Run, free}

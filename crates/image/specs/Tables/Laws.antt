@@ -10,7 +10,7 @@ use lib.Bits.{bitAnd}
 use lib.Dec.{T, eqb, ltb, leb, eqb→eq, ltb→lt}
 use lib.Ieee.Fits.{and-l, and-r}
 use lib.ListN.{length, getD, List·getD-eq-default}
-use Rattle.image.specs.Each.{each, each-at}
+use Rattle.bits.specs.Each.{each, each-at}
 use Rattle.image.specs.Tables.{writable, alwaysOne, named}
 
 -- each has 64 entries

@@ -10,7 +10,7 @@ use lib.Bits.{and-mask, and-zero-r}
 use lib.Dec.{eqb, eqb→eq}
 use lib.ListN.{length, getD}
 use Rattle.bits.specs.Bytes.{Bytes}
-use Rattle.image.specs.Each.{each-at}
+use Rattle.bits.specs.Each.{each-at}
 use Rattle.image.specs.Fields.{wordAt}
 use Rattle.image.specs.Map.Laws.{region-registers}
 use Rattle.image.specs.Registers.{passwordControl, readPassword, fullPassword}
