@@ -4,12 +4,12 @@ use mathlib.Core.Bool.{Bool, _&&_}
 use Prim.Native.Nat.{ℕ}
 use lib.Dec.{eqb}
 use Rattle.bits.specs.Choose.{if_then_else_}
-use Rattle.memory.specs.declared.Deed.{Deed}
-use Rattle.memory.specs.declared.Hearing.{Hearing}
-use Rattle.memory.specs.declared.Moved.{Moved}
-use Rattle.memory.specs.declared.Question.{Question}
-use Rattle.memory.specs.declared.Stage.{Stage}
-use Rattle.memory.specs.Bus.{clearBus}
+use Rattle.bus.specs.declared.Deed.{Deed}
+use Rattle.bus.specs.declared.Hearing.{Hearing}
+use Rattle.bus.specs.declared.Moved.{Moved}
+use Rattle.bus.specs.declared.Question.{Question}
+use Rattle.bus.specs.declared.Stage.{Stage}
+use Rattle.bus.specs.Bus.{newHeld, clearBus}
 use Rattle.memory.specs.Memory as memory
 use Rattle.memory.specs.Range.{memoryInRange}
 use Rattle.select.specs.declared.Chosen.{Chosen}
@@ -22,7 +22,7 @@ pub mod Pad
 -- "A new tag .. has .. everything else clear, and waits for a reset"
 abbrev pub newExchange : ℕ → Exchange
 newExchange number =
-    record { number = number; select = select.newSelect; held = memory.newHeld; bus = clearBus Stage.Over }
+    record { number = number; select = select.newSelect; held = newHeld; bus = clearBus Stage.Over }
 
 -- a reset: a ROM command is heard next, then a memory command; scratchpad, TA, E/S and the Resume mark stay
 abbrev pub afterReset : Exchange → Exchange

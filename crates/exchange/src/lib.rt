@@ -1,11 +1,11 @@
 // The exchange on the line as a machine by value: a tag is chosen, then one memory command is carried on, slot by slot.
 // It never sees the image. What it must know it asks (`ask`), and what is to be done it returns (a `Deed`).
-use memory::Bus;
-use memory::Deed;
-use memory::Hearing;
-use memory::Held;
-use memory::Question;
-use memory::Stage;
+use bus::Bus;
+use bus::Deed;
+use bus::Hearing;
+use bus::Held;
+use bus::Question;
+use bus::Stage;
 use select::Select;
 ghost use mathlib.Core.Path.{_≡_};
 ghost use lib.Dec.{eqb};
@@ -33,8 +33,8 @@ pub fn new(number: u64) -> Exchange
     ensures { λ r. ⌜ r ≡ newExchange number ⌝ }
 {
     let select = select::waiting();
-    let held = memory::blank();
-    let bus = memory::state::clear(Stage::Over);
+    let held = bus::blank();
+    let bus = bus::state::clear(Stage::Over);
     Exchange {
         number,
         select,
@@ -50,7 +50,7 @@ pub fn reset(x: Exchange) -> Exchange
     let before = x.select;
     let select = select::reset(before);
     let held = x.held;
-    let bus = memory::state::clear(Stage::Hears(Hearing::Command));
+    let bus = bus::state::clear(Stage::Hears(Hearing::Command));
     Exchange {
         number: x.number,
         select,

@@ -5,18 +5,18 @@ use lib.Dec.{eqb, ltb}
 use lib.ListN.{set}
 use Rattle.bits.specs.Choose.{if_then_else_}
 use Rattle.bits.specs.Bits.{shiftIn}
-use Rattle.memory.specs.declared.Addressed.{Addressed}
-use Rattle.memory.specs.declared.Bus.{Bus}
-use Rattle.memory.specs.declared.Control.{Control}
-use Rattle.memory.specs.declared.Deed.{Deed}
-use Rattle.memory.specs.declared.Guarded.{Guarded}
-use Rattle.memory.specs.declared.Hearing.{Hearing}
-use Rattle.memory.specs.declared.Held.{Held}
-use Rattle.memory.specs.declared.Moved.{Moved}
-use Rattle.memory.specs.declared.Next.{Next}
-use Rattle.memory.specs.declared.Sending.{Sending}
-use Rattle.memory.specs.declared.Stage.{Stage}
-use Rattle.memory.specs.Bus.{goTo, passing, adding, counting, freshCrc, addressing, noting, listens}
+use Rattle.bus.specs.declared.Addressed.{Addressed}
+use Rattle.bus.specs.declared.Bus.{Bus}
+use Rattle.bus.specs.declared.Control.{Control}
+use Rattle.bus.specs.declared.Deed.{Deed}
+use Rattle.bus.specs.declared.Guarded.{Guarded}
+use Rattle.bus.specs.declared.Hearing.{Hearing}
+use Rattle.bus.specs.declared.Held.{Held}
+use Rattle.bus.specs.declared.Moved.{Moved}
+use Rattle.bus.specs.declared.Next.{Next}
+use Rattle.bus.specs.declared.Sending.{Sending}
+use Rattle.bus.specs.declared.Stage.{Stage}
+use Rattle.bus.specs.Bus.{goTo, passing, adding, counting, freshCrc, addressing, noting, listens}
 
 -- which stage a command byte leads to
 unfoldable pub commandStage : ℕ → Stage

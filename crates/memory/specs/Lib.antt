@@ -1,6 +1,4 @@
-pub mod Bus
 pub mod Hear
-pub mod Field
 pub mod Send
 pub mod Memory
 pub mod Range

@@ -1,24 +1,19 @@
 -- One slot of a memory command, by the stage it stands at (document 01, "Memory commands"). Assumes nothing.
-use mathlib.Core.Bool.{Bool, false, _&&_}
+use mathlib.Core.Bool.{Bool, _&&_}
 use Prim.Native.Nat.{ℕ}
 use lib.Dec.{eqb}
-use lib.ListN.{replicate}
-use Rattle.memory.specs.declared.Bus.{Bus}
-use Rattle.memory.specs.declared.Deed.{Deed}
-use Rattle.memory.specs.declared.Held.{Held}
-use Rattle.memory.specs.declared.Moved.{Moved}
-use Rattle.memory.specs.declared.Question.{Question}
-use Rattle.memory.specs.declared.Stage.{Stage}
-use Rattle.memory.specs.Bus.{listens}
+use Rattle.bus.specs.declared.Bus.{Bus}
+use Rattle.bus.specs.declared.Deed.{Deed}
+use Rattle.bus.specs.declared.Held.{Held}
+use Rattle.bus.specs.declared.Moved.{Moved}
+use Rattle.bus.specs.declared.Question.{Question}
+use Rattle.bus.specs.declared.Stage.{Stage}
+use Rattle.bus.specs.Bus.{listens}
 use Rattle.memory.specs.Hear.{heardBit}
-use Rattle.memory.specs.Field.{gatheredBit, fieldAsks}
+use Rattle.field.specs.Field.{gatheredBit, fieldAsks}
 use Rattle.memory.specs.Send.{sentBit, alternating, sendAsks}
 pub mod Laws
 pub mod Pad
-
--- a new tag's scratchpad, TA and E/S are 0
-abbrev pub newHeld : Held
-newHeld = record { pad = replicate 32 0; ta = 0; ending = 0; pf = false; aa = false }
 
 -- what a slot at a stage asks of the image
 unfoldable pub stageAsks : Stage → Bus → Bool → Question

@@ -2,10 +2,10 @@
 use mathlib.Core.Bool.{Bool}
 use mathlib.Core.List.{List, [], _∷_, _++_, map}
 use Prim.Native.Nat.{ℕ}
-use Rattle.memory.specs.declared.Bus.{Bus}
-use Rattle.memory.specs.declared.Deed.{Deed}
-use Rattle.memory.specs.declared.Held.{Held}
-use Rattle.memory.specs.declared.Question.{Question}
+use Rattle.bus.specs.declared.Bus.{Bus}
+use Rattle.bus.specs.declared.Deed.{Deed}
+use Rattle.bus.specs.declared.Held.{Held}
+use Rattle.bus.specs.declared.Question.{Question}
 use Rattle.memory.specs.Memory.{asks, slotOf}
 pub mod Laws
 pub mod Scratchpad

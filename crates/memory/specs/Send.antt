@@ -5,15 +5,15 @@ use lib.Dec.{eqb, ltb}
 use Rattle.bits.specs.Choose.{if_then_else_}
 use Rattle.bits.specs.Bits.{bitOf}
 use Rattle.crc.specs.Crc.{sentLow, sentHigh}
-use Rattle.memory.specs.declared.Bus.{Bus}
-use Rattle.memory.specs.declared.Deed.{Deed}
-use Rattle.memory.specs.declared.Held.{Held}
-use Rattle.memory.specs.declared.Moved.{Moved}
-use Rattle.memory.specs.declared.Next.{Next}
-use Rattle.memory.specs.declared.Question.{Question}
-use Rattle.memory.specs.declared.Sending.{Sending}
-use Rattle.memory.specs.declared.Stage.{Stage}
-use Rattle.memory.specs.Bus.{goTo, passing, adding, counting, addressing, freshCrc, statusByte, padByte}
+use Rattle.bus.specs.declared.Bus.{Bus}
+use Rattle.bus.specs.declared.Deed.{Deed}
+use Rattle.bus.specs.declared.Held.{Held}
+use Rattle.bus.specs.declared.Moved.{Moved}
+use Rattle.bus.specs.declared.Next.{Next}
+use Rattle.bus.specs.declared.Question.{Question}
+use Rattle.bus.specs.declared.Sending.{Sending}
+use Rattle.bus.specs.declared.Stage.{Stage}
+use Rattle.bus.specs.Bus.{goTo, passing, adding, counting, addressing, freshCrc, statusByte, padByte}
 
 -- the byte that goes out, as it is at its first slot; `memory` is what the image holds for Read Memory
 unfoldable pub firstByte : Sending → Held → Bus → ℕ → ℕ

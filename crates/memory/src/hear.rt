@@ -1,18 +1,18 @@
 // What the tag hears, byte by byte: the command, an address, data for the scratchpad, Copy's E/S, a control command's last byte.
-use crate::Addressed;
-use crate::Bus;
-use crate::Control;
-use crate::Deed;
-use crate::Guarded;
-use crate::Hearing;
-use crate::Held;
-use crate::Moved;
-use crate::Next;
-use crate::Sending;
-use crate::Stage;
-use crate::state;
+use bus::Addressed;
+use bus::Bus;
+use bus::Control;
+use bus::Deed;
+use bus::Guarded;
+use bus::Hearing;
+use bus::Held;
+use bus::Moved;
+use bus::Next;
+use bus::Sending;
+use bus::Stage;
+use bus::state;
 ghost use mathlib.Core.Path.{_≡_};
-ghost use Rattle.memory.specs.declared.Hearing.{Hearing};
+ghost use Rattle.bus.specs.declared.Hearing.{Hearing};
 ghost use Rattle.memory.specs.Hear.{heardBit, heardWhole, commandStage, addressHeard, loaded, stored, afterData, underWay, confirmed, deedOf};
 
 // One bit heard. The bits of a byte come low bit first, and with its eighth the byte is whole.

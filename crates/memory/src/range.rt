@@ -1,15 +1,15 @@
 // The ranges of scratchpad, TA, E/S and bus state, by the definitions of specs/Range.antt: a record outside of them is none that
 // a new tag leads to.
-use crate::Bus;
-use crate::Control;
-use crate::Guarded;
-use crate::Hearing;
-use crate::Held;
-use crate::Next;
-use crate::Sending;
-use crate::Stage;
+use bus::Bus;
+use bus::Control;
+use bus::Guarded;
+use bus::Hearing;
+use bus::Held;
+use bus::Next;
+use bus::Sending;
+use bus::Stage;
 ghost use mathlib.Core.Path.{_≡_};
-ghost use Rattle.memory.specs.Field.{guarded};
+ghost use Rattle.field.specs.Field.{guarded};
 ghost use Rattle.memory.specs.Range.{fromOffset, hearingInRange, guardedInRange, crcInRange, sendingInRange, stageInRange};
 
 // The stage and how many bits are past.

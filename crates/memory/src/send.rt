@@ -1,13 +1,13 @@
 // What the tag sends, byte by byte: Read Scratchpad, Read Memory, and the CRC-16 behind them.
-use crate::Bus;
-use crate::Deed;
-use crate::Held;
-use crate::Moved;
-use crate::Next;
-use crate::Question;
-use crate::Sending;
-use crate::Stage;
-use crate::state;
+use bus::Bus;
+use bus::Deed;
+use bus::Held;
+use bus::Moved;
+use bus::Next;
+use bus::Question;
+use bus::Sending;
+use bus::Stage;
+use bus::state;
 ghost use mathlib.Core.Path.{_≡_};
 ghost use Rattle.memory.specs.Send.{firstByte, afterPad, afterMemory, afterPage, afterCrc, sentWhole, outgoing, sentBit, alternating, sendAsks};
 

@@ -14,8 +14,8 @@ use Rattle.exchange.specs.Exchange as exchange
 use Rattle.image.specs.Answers.{alarmed, mayRead, mayControl, mayCopy}
 use Rattle.image.specs.Sent.{sentAt}
 use Rattle.image.specs.Stored.{storedPage}
-use Rattle.memory.specs.declared.Deed.{Deed}
-use Rattle.memory.specs.declared.Question.{Question}
+use Rattle.bus.specs.declared.Deed.{Deed}
+use Rattle.bus.specs.declared.Question.{Question}
 use Rattle.mission.specs.declared.Counters.{Counters}
 use Rattle.mission.specs.Mission as mission
 use Rattle.tag.specs.declared.Answered.{Answered}

@@ -2,8 +2,8 @@
 use crate::Answered;
 use crate::Tag;
 use exchange::Exchange;
-use memory::Deed;
-use memory::Question;
+use bus::Deed;
+use bus::Question;
 use mission::Counters;
 ghost use mathlib.Core.Path.{_≡_};
 ghost use Rattle.bits.specs.Bits.{digit};

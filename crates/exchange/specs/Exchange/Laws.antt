@@ -5,7 +5,7 @@ use mathlib.Core.Bool.{Bool, true, false, and-eq-true-iff}
 use Prim.Native.Nat.{ℕ}
 use lib.Dec.{eqb}
 use Rattle.bits.specs.Choose.{if_then_else_}
-use Rattle.memory.specs.declared.Question.{Question}
+use Rattle.bus.specs.declared.Question.{Question}
 use Rattle.memory.specs.Memory as memory
 use Rattle.memory.specs.Phases.{opened, reading, writing, confirms, lets, letsWrite, free}
 use Rattle.memory.specs.Phases.Deeds as deeds

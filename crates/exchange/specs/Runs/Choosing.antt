@@ -8,7 +8,7 @@ use native.Mathlib.Omega.{arith}
 use lib.ListN.{length}
 use Rattle.bits.specs.Bits.{bitsOf, released}
 use Rattle.bits.specs.Bits.Laws.{length-bits}
-use Rattle.memory.specs.declared.Question.{Question}
+use Rattle.bus.specs.declared.Question.{Question}
 use Rattle.select.specs.declared.Choosing.the-variants.{Selected}
 use Rattle.select.specs.Select.{resetSelect, romCommand, keeps}
 use Rattle.select.specs.Select.Mark.{joins}

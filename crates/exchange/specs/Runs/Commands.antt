@@ -8,18 +8,18 @@ use lib.Dec.{eqb}
 use lib.ListN.{length, replicate}
 use Rattle.bits.specs.Bits.{bitsOf, released}
 use Rattle.bits.specs.Bits.Laws.{length-bits}
-use Rattle.memory.specs.declared.Bus.{Bus}
-use Rattle.memory.specs.declared.Deed.{Deed}
-use Rattle.memory.specs.declared.Guarded.{Guarded}
-use Rattle.memory.specs.declared.Hearing.{Hearing}
-use Rattle.memory.specs.declared.Held.{Held}
-use Rattle.memory.specs.declared.Moved.{Moved}
-use Rattle.memory.specs.declared.Question.{Question}
-use Rattle.memory.specs.declared.Sending.{Sending}
-use Rattle.memory.specs.declared.Stage.{Stage}
-use Rattle.memory.specs.Bus.{goTo}
+use Rattle.bus.specs.declared.Bus.{Bus}
+use Rattle.bus.specs.declared.Deed.{Deed}
+use Rattle.bus.specs.declared.Guarded.{Guarded}
+use Rattle.bus.specs.declared.Hearing.{Hearing}
+use Rattle.bus.specs.declared.Held.{Held}
+use Rattle.bus.specs.declared.Moved.{Moved}
+use Rattle.bus.specs.declared.Question.{Question}
+use Rattle.bus.specs.declared.Sending.{Sending}
+use Rattle.bus.specs.declared.Stage.{Stage}
+use Rattle.bus.specs.Bus.{goTo}
 use Rattle.memory.specs.Hear.{heardWhole}
-use Rattle.memory.specs.Field.{judged, fieldQuestion}
+use Rattle.field.specs.Field.{judged, fieldQuestion}
 use Rattle.memory.specs.Send.{firstByte, sentWhole, alternating, sendAsks}
 use Rattle.memory.specs.Memory as memory
 use Rattle.memory.specs.Runs as memory-runs

@@ -5,9 +5,9 @@ use mathlib.Core.List.{List, [], _∷_, _++_, map-append}
 use Prim.Native.Nat.{ℕ}
 use borrow.Author.Tests.{not-true}
 use lib.Dec.{eqb}
-use Rattle.memory.specs.declared.Bus.{Bus}
-use Rattle.memory.specs.declared.Held.{Held}
-use Rattle.memory.specs.declared.Question.{Question}
+use Rattle.bus.specs.declared.Bus.{Bus}
+use Rattle.bus.specs.declared.Held.{Held}
+use Rattle.bus.specs.declared.Question.{Question}
 use Rattle.memory.specs.Memory as memory
 use Rattle.memory.specs.Runs as memory-runs
 use Rattle.select.specs.declared.Select.{Select}

@@ -11,6 +11,6 @@ ask-spec =
     (tie.spec (search needs) (search needs) (search needs) (search needs) (search needs) (search needs) (search needs)
     (λ c. simp (c .enum-told .given .1))
     (λ c. simp (c .enum-told2 .given .1))
-    (λ c. simp (c .field-asks .ensures, c .before .before .stage .given .1))
+    (λ c. simp (c .ask .ensures, c .before .before .stage .given .1))
     (λ c. simp (c .send-asks .ensures, c .before .before .stage2 .given .1))
     (λ c. simp (c .enum-told3 .given .1)))

@@ -7,21 +7,21 @@ use native.Mathlib.Omega.{arith}
 use lib.Dec.{eqb}
 use Rattle.bits.specs.Bits.{bitOf, shiftIn}
 use Rattle.bits.specs.Choose.{choice}
-use Rattle.memory.specs.declared.Addressed.{Addressed}
-use Rattle.memory.specs.declared.Bus.{Bus}
-use Rattle.memory.specs.declared.Control.{Control}
-use Rattle.memory.specs.declared.Deed.{Deed}
-use Rattle.memory.specs.declared.Guarded.{Guarded}
-use Rattle.memory.specs.declared.Hearing.{Hearing}
-use Rattle.memory.specs.declared.Held.{Held}
-use Rattle.memory.specs.declared.Moved.{Moved}
-use Rattle.memory.specs.declared.Next.{Next}
-use Rattle.memory.specs.declared.Question.{Question}
-use Rattle.memory.specs.declared.Sending.{Sending}
-use Rattle.memory.specs.declared.Stage.{Stage}
-use Rattle.memory.specs.Bus.{passing, gathering, listens}
+use Rattle.bus.specs.declared.Addressed.{Addressed}
+use Rattle.bus.specs.declared.Bus.{Bus}
+use Rattle.bus.specs.declared.Control.{Control}
+use Rattle.bus.specs.declared.Deed.{Deed}
+use Rattle.bus.specs.declared.Guarded.{Guarded}
+use Rattle.bus.specs.declared.Hearing.{Hearing}
+use Rattle.bus.specs.declared.Held.{Held}
+use Rattle.bus.specs.declared.Moved.{Moved}
+use Rattle.bus.specs.declared.Next.{Next}
+use Rattle.bus.specs.declared.Question.{Question}
+use Rattle.bus.specs.declared.Sending.{Sending}
+use Rattle.bus.specs.declared.Stage.{Stage}
+use Rattle.bus.specs.Bus.{passing, gathering, listens}
 use Rattle.memory.specs.Hear.{underWay, addressHeard, stored, confirmed, heardWhole, heardBit, commandStage}
-use Rattle.memory.specs.Field.{asHeld, copies, judged, gatheredBit, fieldQuestion, fieldAsks, guarded}
+use Rattle.field.specs.Field.{asHeld, copies, judged, gatheredBit, fieldQuestion, fieldAsks, guarded}
 use Rattle.memory.specs.Send.{firstByte, afterMemory, afterPage, afterCrc, sentWhole, outgoing, sentBit, sendAsks}
 use Rattle.memory.specs.Memory.{asks, stageAsks, stageSlot, onLine, slotOf}
 

@@ -8,17 +8,17 @@ use lib.ListN.{length, length-set}
 use Rattle.bits.specs.Bits.{shiftIn}
 use Rattle.bits.specs.Bytes.{Bytes, bytes-set}
 use Rattle.bits.specs.Choose.{choice}
-use Rattle.memory.specs.declared.Addressed.{Addressed}
-use Rattle.memory.specs.declared.Bus.{Bus}
-use Rattle.memory.specs.declared.Guarded.{Guarded}
-use Rattle.memory.specs.declared.Hearing.{Hearing}
-use Rattle.memory.specs.declared.Held.{Held}
-use Rattle.memory.specs.declared.Moved.{Moved}
-use Rattle.memory.specs.declared.Next.{Next}
-use Rattle.memory.specs.declared.Sending.{Sending}
-use Rattle.memory.specs.declared.Stage.{Stage}
+use Rattle.bus.specs.declared.Addressed.{Addressed}
+use Rattle.bus.specs.declared.Bus.{Bus}
+use Rattle.bus.specs.declared.Guarded.{Guarded}
+use Rattle.bus.specs.declared.Hearing.{Hearing}
+use Rattle.bus.specs.declared.Held.{Held}
+use Rattle.bus.specs.declared.Moved.{Moved}
+use Rattle.bus.specs.declared.Next.{Next}
+use Rattle.bus.specs.declared.Sending.{Sending}
+use Rattle.bus.specs.declared.Stage.{Stage}
 use Rattle.memory.specs.Hear.{commandStage, afterData, heardBit, heardWhole, addressHeard, confirmed, stored, underWay}
-use Rattle.memory.specs.Field.{judged, gatheredBit, copies, afterReading, afterControlling}
+use Rattle.field.specs.Field.{judged, gatheredBit, copies, afterReading, afterControlling}
 use Rattle.memory.specs.Send.{afterPad, sentBit, sentWhole, afterMemory, afterPage, afterCrc, alternating, outgoing}
 use Rattle.memory.specs.Memory.{slotOf, stageSlot, onLine}
 

@@ -8,18 +8,18 @@ use lib.Dec.{eqb, ltb}
 use Rattle.bits.specs.Choose.{if_then_else_, choice, choices}
 use Rattle.bits.specs.Bits.{shiftIn}
 use Rattle.memory.specs.Phases.Laws.{copies-not}
-use Rattle.memory.specs.declared.Addressed.{Addressed}
-use Rattle.memory.specs.declared.Bus.{Bus}
-use Rattle.memory.specs.declared.Control.{Control}
-use Rattle.memory.specs.declared.Deed.{Deed}
-use Rattle.memory.specs.declared.Guarded.{Guarded}
-use Rattle.memory.specs.declared.Hearing.{Hearing}
-use Rattle.memory.specs.declared.Held.{Held}
-use Rattle.memory.specs.declared.Moved.{Moved}
-use Rattle.memory.specs.declared.Question.{Question}
-use Rattle.memory.specs.declared.Stage.{Stage}
+use Rattle.bus.specs.declared.Addressed.{Addressed}
+use Rattle.bus.specs.declared.Bus.{Bus}
+use Rattle.bus.specs.declared.Control.{Control}
+use Rattle.bus.specs.declared.Deed.{Deed}
+use Rattle.bus.specs.declared.Guarded.{Guarded}
+use Rattle.bus.specs.declared.Hearing.{Hearing}
+use Rattle.bus.specs.declared.Held.{Held}
+use Rattle.bus.specs.declared.Moved.{Moved}
+use Rattle.bus.specs.declared.Question.{Question}
+use Rattle.bus.specs.declared.Stage.{Stage}
 use Rattle.memory.specs.Hear.{addressHeard, confirmed, deedOf, heardWhole, heardBit}
-use Rattle.memory.specs.Field.{guarded, copies, judged, gatheredBit, fieldAsks}
+use Rattle.field.specs.Field.{guarded, copies, judged, gatheredBit, fieldAsks}
 use Rattle.memory.specs.Send.{sentBit, alternating}
 use Rattle.memory.specs.Memory.{asks, stageAsks, stageSlot, onLine, slotOf}
 use Rattle.memory.specs.Phases.{confirms, writing, letsWrite, hearingDeed, fieldDeed, deedAt, free}

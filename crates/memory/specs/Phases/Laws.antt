@@ -8,20 +8,20 @@ use Rattle.bits.specs.Choose.{if_then_else_, choice, choices}
 use Rattle.bits.specs.Bits.{digit, shiftIn}
 use Rattle.bits.specs.Tests.{neither}
 use Rattle.memory.specs.Memory.Laws.{command-cases}
-use Rattle.memory.specs.declared.Addressed.{Addressed}
-use Rattle.memory.specs.declared.Bus.{Bus}
-use Rattle.memory.specs.declared.Deed.{Deed}
-use Rattle.memory.specs.declared.Guarded.{Guarded}
-use Rattle.memory.specs.declared.Hearing.{Hearing}
-use Rattle.memory.specs.declared.Held.{Held}
-use Rattle.memory.specs.declared.Moved.{Moved}
-use Rattle.memory.specs.declared.Next.{Next}
-use Rattle.memory.specs.declared.Question.{Question}
-use Rattle.memory.specs.declared.Sending.{Sending}
-use Rattle.memory.specs.declared.Stage.{Stage}
-use Rattle.memory.specs.Bus.{gathering, listens}
+use Rattle.bus.specs.declared.Addressed.{Addressed}
+use Rattle.bus.specs.declared.Bus.{Bus}
+use Rattle.bus.specs.declared.Deed.{Deed}
+use Rattle.bus.specs.declared.Guarded.{Guarded}
+use Rattle.bus.specs.declared.Hearing.{Hearing}
+use Rattle.bus.specs.declared.Held.{Held}
+use Rattle.bus.specs.declared.Moved.{Moved}
+use Rattle.bus.specs.declared.Next.{Next}
+use Rattle.bus.specs.declared.Question.{Question}
+use Rattle.bus.specs.declared.Sending.{Sending}
+use Rattle.bus.specs.declared.Stage.{Stage}
+use Rattle.bus.specs.Bus.{gathering, listens}
 use Rattle.memory.specs.Hear.{commandStage, addressHeard, afterData, confirmed, heardWhole, heardBit}
-use Rattle.memory.specs.Field.{guarded, afterReading, afterControlling, asHeld, toTheEnd, copies, judged, gatheredBit, fieldQuestion, fieldAsks}
+use Rattle.field.specs.Field.{guarded, afterReading, afterControlling, asHeld, toTheEnd, copies, judged, gatheredBit, fieldQuestion, fieldAsks}
 use Rattle.memory.specs.Send.{firstByte, afterPad, afterMemory, afterPage, afterCrc, sentWhole, outgoing, sentBit, alternating, sendAsks}
 use Rattle.memory.specs.Memory.{asks, stageAsks, stageSlot, onLine, slotOf}
 use Rattle.memory.specs.Phases.{isPage, sendsMemory, reading, confirms, writing, opened, letsRead, letsWrite, lets, takes, isByte}

@@ -8,20 +8,20 @@ use lib.Dec.{eqb, ltb}
 use Rattle.bits.specs.Choose.{choice, either}
 use Rattle.bits.specs.Bits.{shiftIn}
 use Rattle.memory.specs.Memory.Laws.{command-cases}
-use Rattle.memory.specs.declared.Addressed.{Addressed}
-use Rattle.memory.specs.declared.Bus.{Bus}
-use Rattle.memory.specs.declared.Guarded.{Guarded}
-use Rattle.memory.specs.declared.Hearing.{Hearing}
-use Rattle.memory.specs.declared.Held.{Held}
-use Rattle.memory.specs.declared.Moved.{Moved}
-use Rattle.memory.specs.declared.Next.{Next}
-use Rattle.memory.specs.declared.Sending.{Sending}
-use Rattle.memory.specs.declared.Stage.{Stage}
-use Rattle.memory.specs.Bus.{clearBus, goTo, passing, adding, freshCrc}
+use Rattle.bus.specs.declared.Addressed.{Addressed}
+use Rattle.bus.specs.declared.Bus.{Bus}
+use Rattle.bus.specs.declared.Guarded.{Guarded}
+use Rattle.bus.specs.declared.Hearing.{Hearing}
+use Rattle.bus.specs.declared.Held.{Held}
+use Rattle.bus.specs.declared.Moved.{Moved}
+use Rattle.bus.specs.declared.Next.{Next}
+use Rattle.bus.specs.declared.Sending.{Sending}
+use Rattle.bus.specs.declared.Stage.{Stage}
+use Rattle.bus.specs.Bus.{newHeld, clearBus, goTo, passing, adding, freshCrc}
 use Rattle.memory.specs.Hear.{commandStage, addressHeard, loaded, stored, afterData, underWay, confirmed, heardWhole, heardBit}
-use Rattle.memory.specs.Field.{afterReading, afterControlling, copies, judged, gatheredBit}
+use Rattle.field.specs.Field.{afterReading, afterControlling, copies, judged, gatheredBit}
 use Rattle.memory.specs.Send.{afterPad, afterMemory, afterPage, afterCrc, sentWhole, outgoing, sentBit, alternating}
-use Rattle.memory.specs.Memory.{newHeld, stageSlot, onLine, slotOf}
+use Rattle.memory.specs.Memory.{stageSlot, onLine, slotOf}
 use Rattle.memory.specs.Range.{fromOffset, hearingInRange, guardedInRange, crcInRange, sendingInRange, stageInRange, memoryInRange}
 
 and-intro : {a b : Bool} → a ≡ true → b ≡ true → (a && b) ≡ true

@@ -9,18 +9,18 @@ use lib.Dec.{eqb}
 use lib.ListN.{length, replicate}
 use Rattle.bits.specs.Bits.{bitOf, bitsOf, shiftIn, shiftAll, released}
 use Rattle.bits.specs.Bits.Laws.{length-bits, heard-whole, bits-from}
-use Rattle.memory.specs.declared.Bus.{Bus}
-use Rattle.memory.specs.declared.Deed.{Deed}
-use Rattle.memory.specs.declared.Guarded.{Guarded}
-use Rattle.memory.specs.declared.Hearing.{Hearing}
-use Rattle.memory.specs.declared.Held.{Held}
-use Rattle.memory.specs.declared.Moved.{Moved}
-use Rattle.memory.specs.declared.Question.{Question}
-use Rattle.memory.specs.declared.Sending.{Sending}
-use Rattle.memory.specs.declared.Stage.{Stage}
-use Rattle.memory.specs.Bus.{passing, gathering, listens}
+use Rattle.bus.specs.declared.Bus.{Bus}
+use Rattle.bus.specs.declared.Deed.{Deed}
+use Rattle.bus.specs.declared.Guarded.{Guarded}
+use Rattle.bus.specs.declared.Hearing.{Hearing}
+use Rattle.bus.specs.declared.Held.{Held}
+use Rattle.bus.specs.declared.Moved.{Moved}
+use Rattle.bus.specs.declared.Question.{Question}
+use Rattle.bus.specs.declared.Sending.{Sending}
+use Rattle.bus.specs.declared.Stage.{Stage}
+use Rattle.bus.specs.Bus.{passing, gathering, listens}
 use Rattle.memory.specs.Hear.{underWay, heardWhole}
-use Rattle.memory.specs.Field.{judged, fieldQuestion}
+use Rattle.field.specs.Field.{judged, fieldQuestion}
 use Rattle.memory.specs.Send.{sentWhole, firstByte, sendAsks}
 use Rattle.memory.specs.Memory.{asks, stageAsks, slotOf}
 use Rattle.memory.specs.Memory.Laws.{asks-at, heardAs, whole-begun, heard-more, heard-last, judged-gathered, question-gathered, field-asks-more, field-asks-last, gathered-more, gathered-last, outgoing-kept, outgoing-first, sending-asks-nothing, sent-begun, sent-more, sent-last}

@@ -12,16 +12,16 @@ use lib.Seq.{length-take-le, drop-cons, drop-append-seam, sets, sets-eq}
 use Rattle.bits.specs.Bits.{bitsOf, slotsOf, released}
 use Rattle.bits.specs.Bits.Laws.{slots-append, released-more}
 use Rattle.crc.specs.Crc.{crcRun, crc16Run, sentLow, sentHigh}
-use Rattle.memory.specs.declared.Addressed.{Addressed}
-use Rattle.memory.specs.declared.Bus.{Bus}
-use Rattle.memory.specs.declared.Deed.{Deed}
-use Rattle.memory.specs.declared.Hearing.{Hearing}
-use Rattle.memory.specs.declared.Held.{Held}
-use Rattle.memory.specs.declared.Next.{Next}
-use Rattle.memory.specs.declared.Question.{Question}
-use Rattle.memory.specs.declared.Sending.{Sending}
-use Rattle.memory.specs.declared.Stage.{Stage}
-use Rattle.memory.specs.Bus.{clearBus, goTo, addressing, statusByte, padByte}
+use Rattle.bus.specs.declared.Addressed.{Addressed}
+use Rattle.bus.specs.declared.Bus.{Bus}
+use Rattle.bus.specs.declared.Deed.{Deed}
+use Rattle.bus.specs.declared.Hearing.{Hearing}
+use Rattle.bus.specs.declared.Held.{Held}
+use Rattle.bus.specs.declared.Next.{Next}
+use Rattle.bus.specs.declared.Question.{Question}
+use Rattle.bus.specs.declared.Sending.{Sending}
+use Rattle.bus.specs.declared.Stage.{Stage}
+use Rattle.bus.specs.Bus.{clearBus, goTo, addressing, statusByte, padByte}
 use Rattle.memory.specs.Hear.{commandStage, loaded, addressHeard, stored, afterData, heardWhole}
 use Rattle.memory.specs.Send.{firstByte, afterPad, afterCrc, sentWhole, sendAsks}
 use Rattle.memory.specs.Runs.{Ran, run, follows, quietly}

@@ -22,7 +22,7 @@ use Rattle.exchange.specs.Exchange.Pad.{PaddedIn, exchange-padded, reset-padded
 use Rattle.image.specs.Fields.{flagAt}
 use Rattle.image.specs.Leaves.{word-left}
 use Rattle.image.specs.Registers
-use Rattle.memory.specs.declared.Deed.{Deed}
+use Rattle.bus.specs.declared.Deed.{Deed}
 use Rattle.mission.specs.Clock.Laws.{stamp-kept}
 use Rattle.mission.specs.Mission
 use Rattle.mission.specs.Mission.Commands.{starts, may-start}

@@ -11,7 +11,7 @@ use Rattle.image.specs.Leaves.{leaves-keeps}
 use Rattle.image.specs.Registers
 use Rattle.image.specs.Stored.{storedPage}
 use Rattle.image.specs.Stored.Laws.{keeps-storedPage, bytes-storedPage, keeps-apart}
-use Rattle.memory.specs.declared.Deed.{Deed}
+use Rattle.bus.specs.declared.Deed.{Deed}
 use Rattle.mission.specs.Clock.Laws.{clock-kept}
 use Rattle.mission.specs.Mission
 use Rattle.mission.specs.Mission.Commands.{cleared-mission, started-not, mip-stopped, forced-mission}

@@ -17,7 +17,7 @@ use Rattle.exchange.specs.Exchange as exchange
 use Rattle.exchange.specs.Exchange.Laws as exchange-laws
 use Rattle.image.specs.Stored.{storedPage}
 use Rattle.image.specs.Stored.Laws.{length-storedRun}
-use Rattle.memory.specs.declared.Deed.{Deed}
+use Rattle.bus.specs.declared.Deed.{Deed}
 use Rattle.mission.specs.declared.Counters.{Counters}
 use Rattle.mission.specs.Mission as mission
 use Rattle.mission.specs.Mission.Frames.{leaves-cleared, leaves-started, leaves-stopped, leaves-forced, leaves-ticked}

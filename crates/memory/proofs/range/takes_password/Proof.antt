@@ -1,6 +1,6 @@
 -- `memory::range::takes_password` meets its contract. Assumes nothing.
 use borrow.Author.Needs.{needs}
-use Rattle.memory.specs.Field.{guarded}
+use Rattle.field.specs.Field.{guarded}
 use Rattle.memory.proofs.range.takes_password.Statement.{statement}
 use Rattle.memory.proofs.range.takes_password.Tie as tie
 

@@ -1,8 +1,0 @@
--- `memory::field::controlling` meets its contract. Assumes nothing.
-use Rattle.memory.specs.Field.{afterControlling}
-use Rattle.memory.proofs.field.controlling.Statement.{statement}
-use Rattle.memory.proofs.field.controlling.Tie as tie
-
-pub controlling-spec : {M : Type 1} → statement M
-unfolding afterControlling
-controlling-spec = tie.close (tie.spec (λ c. simp (c .if1 .taken)) (λ c. simp (c .if1 .left)))
