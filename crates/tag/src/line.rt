@@ -1,9 +1,9 @@
 // A slot: the exchange asks, the image answers, the exchange moves on, and its deed is done to the image.
 use crate::Answered;
 use crate::Tag;
-use exchange::Exchange;
 use bus::Deed;
 use bus::Question;
+use exchange::Exchange;
 use mission::Counters;
 ghost use mathlib.Core.Path.{_≡_};
 ghost use Rattle.bits.specs.Bits.{digit};
