@@ -14,9 +14,9 @@ pub struct Clock {
 }
 
 // What a field becomes as it steps, and whether it carries to the next.
-struct Stepped {
-    byte: u8,
-    carry: bool,
+pub struct Stepped {
+    pub byte: u8,
+    pub carry: bool,
 }
 
 // One second on. Most seconds step one field alone, so each field's carry is tested before the next is looked at.
@@ -24,7 +24,7 @@ pub fn next(clock: Clock) -> Clock
     ensures { λ r. ⌜ r ≡ nextSecond clock ⌝ }
 {
     let mut c = clock;
-    let seconds = step(0x00, 0x59, c.seconds);
+    let seconds = step_seconds(c.seconds);
     c.seconds = seconds.byte;
     if !seconds.carry {
         return c;
@@ -63,6 +63,13 @@ fn next_day(clock: Clock) -> Clock
         c.month = flip(c.month);
     }
     c
+}
+
+// The seconds, 60 a minute: the field that every second steps.
+pub fn step_seconds(byte: u8) -> Stepped
+    ensures { λ r. ⌜ r ≡ stepField 0x00 0x59 byte ⌝ }
+{
+    step(0x00, 0x59, byte)
 }
 
 // The hours, 24 a day.

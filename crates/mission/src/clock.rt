@@ -7,13 +7,22 @@ use image::registers::CLOCK;
 use image::registers::EOSC;
 use image::registers::RTC_CONTROL;
 
-// The clock, one second on, if EOSC is 1.
+// The clock, one second on, if EOSC is 1. Most seconds step the first field alone, so its carry is tested before the others are
+// looked at.
 pub fn advance(image: &mut [u8])
     ensures { λ _. ⌜ now (image .exit) ≡ clocked (now (image .entry)) ⌝ }
 {
-    if image::flag(image, RTC_CONTROL, EOSC) {
+    if !image::flag(image, RTC_CONTROL, EOSC) {
+        return;
+    }
+    let seconds = calendar::step_seconds(image::register(image, 0x00));
+    if seconds.carry {
         let next = calendar::next(read(image));
         put(image, CLOCK as u16, next);
+    } else {
+        let mut clock = read(image);
+        clock.seconds = seconds.byte;
+        put(image, CLOCK as u16, clock);
     }
 }
 

@@ -1,5 +1,5 @@
 -- What a field's step gives, for any lowest and last value, and n seconds on. Assumes nothing.
-use mathlib.Core.Path.{_≡_, refl, ap}
+use mathlib.Core.Path.{_≡_, refl, ap, _∙_}
 use mathlib.Core.Bool.{true, false, not, _||_, and-eq-true-iff, or-true}
 use mathlib.Core.Logic.{_⊎_, inl, inr, ⊎-elim}
 use Prim.Native.Nat.{ℕ, zero, suc, _+_, _/_, _%_, _≤_, _<_}
@@ -81,10 +81,22 @@ step-le {lowest} {last} byte d h =
 -- ---- one second on
 
 -- seconds that do not carry step alone, whatever the other fields hold
+pub next-uncarried : (c : Clock) → stepField 0x00 0x59 (c .seconds) .carry ≡ false →
+    nextSecond c
+    ≡ record {
+      seconds = stepField 0x00 0x59 (c .seconds) .byte;
+      minutes = c .minutes;
+      hours = c .hours;
+      date = c .date;
+      month = c .month;
+      year = c .year;
+    }
+unfolding nextSecond carried stepHours
+next-uncarried c e = rw e
+
 pub next-alone : {c : Clock} → Between 0x00 0x59 (c .seconds) → c .seconds < 0x59 →
     nextSecond c ≡ record { seconds = plusOne (c .seconds); minutes = c .minutes; hours = c .hours; date = c .date; month = c .month; year = c .year }
-unfolding nextSecond carried stepHours
-next-alone b h = rw (step-on b h)
+next-alone {c} b h = next-uncarried c (rw (step-on b h)) ∙ rw (step-on b h)
 
 -- ---- n seconds on
 

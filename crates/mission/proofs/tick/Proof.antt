@@ -131,4 +131,4 @@ tick-spec =
     tie.close
     (tie.spec (search needs) (search needs) (search needs) returns (search needs) (search needs) (search needs) returns-2 (search needs)
     (search needs) (search needs) returns-3 (search needs) (search needs) returns-4 (search needs) (search needs) returns-5
-    (search needs) sub-after-2 (search needs) (search needs) returns-6)
+    (search needs) (search needs) sub-after-2 (search needs) (search needs) returns-6)

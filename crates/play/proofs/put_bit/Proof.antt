@@ -1,19 +1,39 @@
--- `play::put_bit` meets its contract. Assumes nothing.
-use mathlib.Core.Path.{sym}
+-- `play::put_bit` meets its contract: both characters where there is room for both, else the first, if there is room for it.
+-- Each name says what was known after that call. Assumes nothing.
+use mathlib.Core.Path.{_≡_, sym}
+use mathlib.Core.Logic.{⊎-elim}
+use Prim.Native.Nat.{_≤_, _-_, suc}
 use native.Mathlib.Numerals.{add-one}
+use native.Mathlib.Omega.{arith}
 use borrow.Author.Needs.{needs}
+use borrow.Author.Tests.{ltb-false}
+use denote.Ref.{now}
+use lib.ListN.{length, length-set}
+use lib.Seq.{set-out}
 use Rattle.play.specs.Play.{bitText}
-use Rattle.play.specs.Play.Laws.{sets-past}
 use Rattle.play.proofs.put_bit.Statement.{statement}
 use Rattle.play.proofs.put_bit.Tie as tie
 
-returns : tie.Need-returns
+both : tie.Need-returns
 unfolding bitText
-returns c = simp (c .before .before .poke2 .ensures, c .before .before .before .before .before .before .poke .ensures, c .before .before .before .before .before .before .before .digit-of .ensures, add-one)
+both c =
+    let second = c .before .before in
+    let first = second .before .before .before .before in
+    let digit = first .before .before .before .before in
+    simp (second .poke2 .ensures, first .poke .ensures, digit .digit-of .ensures, add-one)
 
-returns-2 : tie.Need-returns-2
-returns-2 c = sym (sets-past _ _ (bitText (c .before .before .args .line)) (c .if1 .left))
+one : tie.Need-returns-2
+unfolding bitText
+one c =
+    let first = c .before .before in
+    let joined = first .before .before in
+    let digit = joined .before in
+    let a = digit .before .before .args in
+    let full : length (now (a .out)) ≤ suc (a .at) =
+    ⊎-elim (λ at-end. omega (arith, ltb-false 1 (length (now (a .out)) - a .at) (at-end .1 .left))) (λ past. omega (arith, past .left)) (joined .if1 .came) in
+    simp (first .poke3 .ensures, digit .digit-of .ensures) (sym (set-out _ _ _ (rw (length-set (now (a .out)) _ _) full)))
 
 pub put-bit-spec : {M : Type 1} → statement M
 put-bit-spec =
-    tie.close (tie.spec (search needs) (search needs) (search needs) (search needs) (search needs) returns returns-2)
+    tie.close
+    (tie.spec (search needs) (search needs) (search needs) (search needs) (search needs) (search needs) (search needs) both (search needs) one)

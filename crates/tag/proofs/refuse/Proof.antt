@@ -1,10 +1,10 @@
 -- `tag::refuse` meets its contract: the record as given. Assumes nothing.
-use mathlib.Core.Path.{refl}
+use borrow.Author.Needs.{needs}
 use Rattle.tag.proofs.refuse.Statement.{statement}
 use Rattle.tag.proofs.refuse.Tie as tie
 
 returns : tie.Need-returns
-returns c = refl
+returns c = rw (c .afresh .ensures)
 
 pub refuse-spec : {M : Type 1} → statement M
-refuse-spec = tie.close (tie.spec returns)
+refuse-spec = tie.close (tie.spec (search needs) returns)

@@ -1,23 +1,55 @@
--- `mission::clock::advance` meets its contract.
--- `c2` is what was known two places before `c`. Assumes nothing.
-use Rattle.mission.specs.Mission.{clocked}
+-- `mission::clock::advance` meets its contract: seconds that carry take the whole clock on, and others step alone, by
+-- `next-uncarried`. Each name says what was known after that call, or in that branch. Assumes nothing.
+use mathlib.Core.Path.{_≡_, sym, ap, _∙_}
+use denote.Ref.{now}
 use borrow.Author.Needs.{needs}
+use borrow.Author.Tests.{not-true, not-false}
+use Rattle.calendar.specs.Calendar.{stepField}
+use Rattle.calendar.specs.Calendar.Laws.{next-uncarried}
+use Rattle.calendar.specs.declared.Stepped.{Stepped}
+use Rattle.mission.specs.Clock.{clockOf}
+use Rattle.mission.specs.Mission.{clocked}
 use Rattle.mission.proofs.clock.advance.Statement.{statement}
 use Rattle.mission.proofs.clock.advance.Tie as tie
 
-returns : tie.Need-returns
+stands : tie.Need-returns
 unfolding clocked
-returns c =
-    let c2 = c .before .before in
-    let c4 = c2 .before .before in
-    let c5 = c4 .before in
-    let c7 = c5 .before .before in
-    let c8 = c7 .before in
-    simp (← (c8 .flag .ensures), c7 .if1 .taken, c2 .put .ensures, c4 .next .ensures, c5 .read .ensures)
+stands c = simp (← (c .before .flag .ensures), not-true (c .before .flag .result) (c .if1 .taken))
+
+carries : tie.Need-returns-2
+unfolding clocked
+carries c =
+    let put = c .before .before in
+    let next = put .before .before in
+    let read = next .before in
+    let stepped = read .before .before .before in
+    let on = stepped .before .before .before in
+    let flag = on .before in
+    simp (← (flag .flag .ensures), not-false (flag .flag .result) (on .if1 .left), put .put .ensures, next .next .ensures, read .read .ensures)
+
+alone : tie.Need-returns-3
+unfolding clocked clockOf
+alone c =
+    let put = c .before .before in
+    let read = put .before .before in
+    let same = read .before .before in
+    let stepped = same .before in
+    let register = stepped .before in
+    let on = register .before .before in
+    let flag = on .before in
+    let clock = clockOf (now (flag .before .before .before .args .image)) in
+    let step = stepped .step-seconds .ensures ∙ ap (stepField 0x00 0x59) (register .register .ensures) in
+    simp (
+      ← (flag .flag .ensures),
+      not-false (flag .flag .result) (on .if1 .left),
+      put .put2 .ensures,
+      read .read2 .ensures,
+      step,
+      next-uncarried clock (sym (ap (λ (s : Stepped). s .carry) step) ∙ same .if2 .left),
+    )
 
 pub advance-spec : {M : Type 1} → statement M
-unfolding clocked
 advance-spec =
     tie.close
-    (tie.spec (search needs) (search needs) (search needs) (search needs) (search needs) (search needs) returns (search needs)
-    (λ c. simp (← (c .before .flag .ensures), c .if1 .left)))
+    (tie.spec (search needs) (search needs) stands (search needs) (search needs) (search needs) (search needs) (search needs) (search needs)
+    (search needs) (search needs) (search needs) (search needs) carries (search needs) alone)
