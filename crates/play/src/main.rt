@@ -165,12 +165,11 @@ fn put_answer(out: &mut [u8], at: usize, number: u8, line: bool) -> usize
 fn put_bit(out: &mut [u8], at: usize, line: bool)
     ensures { λ _. ⌜ now (out .exit) ≡ sets (now (out .entry)) at (bitText line) ⌝ }
 {
-    let digit = digit_of(line);
     if at < out.len() && 1 < out.len() - at {
-        poke(out, at, digit);
+        poke(out, at, digit_of(line));
         poke(out, at + 1, b'\n');
     } else {
-        poke(out, at, digit);
+        poke(out, at, digit_of(line));
     }
 }
 

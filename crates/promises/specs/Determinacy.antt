@@ -64,7 +64,6 @@ use Rattle.mission.proofs.stop.Reads as mission-stop
 use Rattle.mission.proofs.convert.Reads as mission-convert
 use Rattle.tag.proofs.new.Reads as tag-new
 use Rattle.tag.proofs.event.Reads as tag-event
-use Rattle.tag.proofs.accept.Reads as tag-accept
 use Rattle.tag.proofs.in_range.Reads as tag-in-range
 use Rattle.hex.proofs.pair_at.Reads as hex-pair-at
 use Rattle.hex.proofs.nibble.Reads as hex-nibble
@@ -299,9 +298,6 @@ tag-new-sole k a r s e f p q = pair (p .0 ∙ sym (q .0)) (p .1 ∙ sym (q .1))
 
 tag-event-sole : Sole tag-event.Post (λ k r e. with r (now (e .0)))
 tag-event-sole k a r s e f p q = pair (p .0 ∙ sym (q .0)) (p .1 ∙ sym (q .1))
-
-tag-accept-sole : Sole tag-accept.Post (λ k r e. r)
-tag-accept-sole k a r s e f p q = p ∙ sym q
 
 tag-in-range-sole : Sole tag-in-range.Post (λ k r e. r)
 tag-in-range-sole k a r s e f p q = p ∙ sym q

@@ -19,21 +19,22 @@ unfolding bitText
 both c =
     let second = c .before .before in
     let first = second .before .before .before .before in
-    let digit = first .before .before .before .before in
+    let digit = first .before in
     simp (second .poke2 .ensures, first .poke .ensures, digit .digit-of .ensures, add-one)
 
 one : tie.Need-returns-2
 unfolding bitText
 one c =
     let first = c .before .before in
-    let joined = first .before .before in
-    let digit = joined .before in
-    let a = digit .before .before .args in
+    let digit = first .before in
+    let joined = digit .before .before in
+    let a = joined .before .before .args in
     let full : length (now (a .out)) ≤ suc (a .at) =
     ⊎-elim (λ at-end. omega (arith, ltb-false 1 (length (now (a .out)) - a .at) (at-end .1 .left))) (λ past. omega (arith, past .left)) (joined .if1 .came) in
-    simp (first .poke3 .ensures, digit .digit-of .ensures) (sym (set-out _ _ _ (rw (length-set (now (a .out)) _ _) full)))
+    simp (first .poke3 .ensures, digit .digit-of2 .ensures) (sym (set-out _ _ _ (rw (length-set (now (a .out)) _ _) full)))
 
 pub put-bit-spec : {M : Type 1} → statement M
 put-bit-spec =
     tie.close
-    (tie.spec (search needs) (search needs) (search needs) (search needs) (search needs) (search needs) (search needs) both (search needs) one)
+    (tie.spec (search needs) (search needs) (search needs) (search needs) (search needs) (search needs) (search needs) (search needs) both
+    (search needs) one)
