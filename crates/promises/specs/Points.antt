@@ -14,7 +14,8 @@ use Rattle.bus.specs.declared.Hearing.{Hearing}
 use Rattle.bus.specs.declared.Stage.{Stage}
 use Rattle.memory.specs.Hear.{loaded, afterData}
 use Rattle.bus.specs.Bus.{newHeld}
-use Rattle.mission.specs.Mission.{isHigh, isLow, periodOf}
+use Rattle.conversion.specs.Conversion.{isHigh, isLow}
+use Rattle.mission.specs.Mission.{periodOf}
 
 -- ---- how a point is written
 

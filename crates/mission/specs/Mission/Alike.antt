@@ -14,10 +14,12 @@ use Rattle.image.specs.Fields.Laws.{flag-putFlag}
 use Rattle.image.specs.Keeps.{Run, free}
 use Rattle.image.specs.Leaves.{Flag, touched, widens, Leaves, leaves-then, leaves-sym, leaves-wider, leaves-putWord, leaves-set-both}
 use Rattle.image.specs.Registers.{eosc, mip, putLatest, putEosc}
-use Rattle.mission.specs.Clock.{clockOf, putBytes, putClock}
-use Rattle.mission.specs.Clock.Laws.{clock-kept}
-use Rattle.mission.specs.Mission.{clocked, forced, deviceCounted}
-use Rattle.mission.specs.Mission.Frames.{leaves-clocked, leaves-deviceCounted, leaves-wftaCleared}
+use Rattle.conversion.specs.Clock.{clockOf, putBytes, putClock, clocked}
+use Rattle.conversion.specs.Clock.Laws.{clock-kept, leaves-clocked}
+use Rattle.conversion.specs.Conversion.{deviceCounted}
+use Rattle.mission.specs.Mission.{forced}
+use Rattle.conversion.specs.Conversion.Frames.{leaves-deviceCounted}
+use Rattle.mission.specs.Mission.Frames.{leaves-wftaCleared}
 use Rattle.mission.specs.declared.Counters.{Counters}
 
 -- ---- the same clock stored in both

@@ -1,24 +1,26 @@
 -- What Clear, Start, Stop and Forced Conversion do, field by field, in an image of 8,832 bytes; what each leaves is in
 -- the frames. Assumes nothing.
-use mathlib.Core.Path.{_≡_, ap, _∙_}
-use mathlib.Core.Bool.{true, false, not, _&&_, and-eq-true-iff}
+use mathlib.Core.Path.{_≡_, refl, ap, _∙_}
+use mathlib.Core.Bool.{Bool, true, false, not, _&&_, and-eq-true-iff}
 use mathlib.Core.List.{List}
 use Prim.Native.Nat.{ℕ, _+_, _*_, _/_, _%_, min}
 use native.Mathlib.Omega.{arith}
 use borrow.Author.Tests.{not-true, eqb-false}
 use lib.Dec.{eqb}
-use Rattle.bits.specs.Choose.{if_then_else_}
+use Rattle.bits.specs.Choose.{if_then_else_, choices}
 use Rattle.image.specs.Fields.Laws.{word-putWord, flag-putFlag}
 use Rattle.image.specs.Leaves.{leaves-putWord, leaves-putFlag, word-left}
 use Rattle.image.specs.Registers
 use Rattle.image.specs.Registers.{mip, putLatest, putEosc, putBor, putThf, putTlf, putMip, putMemclr, putStamp, putMissionSamples}
-use Rattle.mission.specs.Clock.{stampOf}
-use Rattle.mission.specs.Clock.Laws.{stamp-zero}
-use Rattle.mission.specs.Mission.{cleared, mayStart, started, stopped, deviceCounted, alarms, forced}
-use Rattle.mission.specs.Mission.Frames.{leaves-deviceCounted, leaves-wftaCleared}
-use Rattle.mission.specs.Mission.Reads.{device-counted, wfta-cleared}
-use Rattle.mission.specs.Mission.Settings.{settings-then, settings-left, alarms-same}
-use Rattle.mission.specs.Mission.Whole.{Whole, whole-putWord, whole-putFlag, whole-deviceCounted}
+use Rattle.conversion.specs.Clock.{stampOf}
+use Rattle.conversion.specs.Clock.Laws.{stamp-zero}
+use Rattle.conversion.specs.Conversion.{deviceCounted, alarms}
+use Rattle.mission.specs.Mission.{cleared, mayStart, started, stopped, wftaCleared, forced}
+use Rattle.conversion.specs.Conversion.Frames.{leaves-deviceCounted}
+use Rattle.mission.specs.Mission.Frames.{leaves-wftaCleared}
+use Rattle.conversion.specs.Conversion.Reads.{device-counted}
+use Rattle.conversion.specs.Conversion.Settings.{settings-then, settings-left, alarms-same}
+use Rattle.conversion.specs.Conversion.Whole.{Whole, whole-putWord, whole-putFlag, whole-deviceCounted}
 use Rattle.mission.specs.declared.Counters.{Counters}
 
 -- ---- Clear
@@ -128,6 +130,12 @@ unfolding stopped
 mip-stopped {image} w = flag-putFlag image 0x0215 1 false (omega (arith, w .size)) tt
 
 -- ---- Forced Conversion
+
+pub wfta-cleared : {image : List ℕ} → Whole image → (reading : ℕ) →
+    Registers.wfta (wftaCleared image reading) ≡ if alarms image reading then false else Registers.wfta image
+unfolding wftaCleared
+wfta-cleared {image} w reading =
+    choices (λ (i : List ℕ) (b : Bool). Registers.wfta i ≡ b) (alarms image reading) (flag-putFlag image 0x0215 4 false (omega (arith, w .size)) tt) refl
 
 -- "no mission only"
 pub forced-mission : (image : List ℕ) (c : Counters) → mip image ≡ true → forced image c ≡ image

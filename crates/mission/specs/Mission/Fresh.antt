@@ -11,13 +11,13 @@ use Rattle.image.specs.Leaves.{Flag, spares, touched, Leaves, word-left, leaves
 use Rattle.image.specs.Registers
 use Rattle.image.specs.Stored.{storedPage}
 use Rattle.image.specs.Stored.Laws.{keeps-shut}
-use Rattle.mission.specs.Clock.{stampOf}
-use Rattle.mission.specs.Clock.Laws.{stamp-kept}
+use Rattle.conversion.specs.Clock.{stampOf}
+use Rattle.conversion.specs.Clock.Laws.{stamp-kept, leaves-clocked}
 use Rattle.mission.specs.Mission.{cleared, mayStart, started, stopped, ticked, forced}
 use Rattle.mission.specs.Mission.Commands.{cleared-mission, clears, started-not, starts, mip-stopped}
-use Rattle.mission.specs.Mission.Frames.{leaves-clocked, leaves-ticked, leaves-stopped, leaves-forced, mip-cleared, mip-forced}
+use Rattle.mission.specs.Mission.Frames.{leaves-ticked, leaves-stopped, leaves-forced, mip-cleared, mip-forced}
 use Rattle.mission.specs.Mission.Ticks.{ticked-idle, mip-clocked}
-use Rattle.mission.specs.Mission.Whole.{Whole}
+use Rattle.conversion.specs.Conversion.Whole.{Whole}
 use Rattle.mission.specs.declared.Counters.{Counters}
 
 -- nothing of a mission is there

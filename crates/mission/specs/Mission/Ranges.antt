@@ -7,7 +7,8 @@ use native.Mathlib.Omega.{arith}
 use borrow.Author.Tests.{le-leb, leb-true, leb-false, lt-ltb, ltb-true}
 use lib.Dec.{leb, ltb, eqb}
 use Rattle.bits.specs.Choose.{choice, either}
-use Rattle.mission.specs.Mission.{mayStart, startedCounters, clocked, delaying, minuteOver, converting, nextMinute, nextWait, tickedCounters, countersInRange}
+use Rattle.conversion.specs.Clock.{clocked}
+use Rattle.mission.specs.Mission.{mayStart, startedCounters, delaying, minuteOver, converting, nextMinute, nextWait, tickedCounters, countersInRange}
 use Rattle.mission.specs.Mission.Laws.{period-le}
 use Rattle.mission.specs.declared.Counters.{Counters}
 

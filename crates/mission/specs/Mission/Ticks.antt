@@ -14,13 +14,16 @@ use Rattle.calendar.specs.declared.Clock.{Clock}
 use Rattle.image.specs.Fields.Laws.{word-lt, word-putWord}
 use Rattle.image.specs.Leaves.{word-left}
 use Rattle.image.specs.Registers.{eosc, mip, rate, delay, wfta, missionSamples, putDelay}
-use Rattle.mission.specs.Clock.{clockOf}
-use Rattle.mission.specs.Clock.Named.{clock-named, clock-putClock}
-use Rattle.mission.specs.Mission.{ended, converted, clocked, delaying, minuteOver, converting, due, missionTicked, nextMinute, nextWait, ticked, tickedCounters}
-use Rattle.mission.specs.Mission.Converts.{Converts, converts, ended-same, records-shift}
-use Rattle.mission.specs.Mission.Frames.{leaves-clocked, leaves-converted}
-use Rattle.mission.specs.Mission.Settings.{SameSettings, settings-then, settings-left, period-same, resolved-same, alarmsHigh-same, alarmsLow-same}
-use Rattle.mission.specs.Mission.Whole.{Whole, whole-clocked}
+use Rattle.conversion.specs.Clock.{clockOf, clocked}
+use Rattle.conversion.specs.Clock.Named.{clock-named, clock-putClock}
+use Rattle.conversion.specs.Conversion.{ended, converted}
+use Rattle.mission.specs.Mission.{delaying, minuteOver, converting, due, missionTicked, nextMinute, nextWait, ticked, tickedCounters}
+use Rattle.conversion.specs.Conversion.Converts.{Converts, converts, ended-same, records-shift}
+use Rattle.conversion.specs.Clock.Laws.{leaves-clocked}
+use Rattle.conversion.specs.Conversion.Frames.{leaves-converted}
+use Rattle.conversion.specs.Conversion.Settings.{SameSettings, settings-then, settings-left, resolved-same, alarmsHigh-same, alarmsLow-same}
+use Rattle.mission.specs.Mission.Settings.{period-same}
+use Rattle.conversion.specs.Conversion.Whole.{Whole, whole-clocked}
 use Rattle.mission.specs.declared.Counters.{Counters}
 
 -- ---- the clock

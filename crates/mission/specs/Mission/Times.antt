@@ -19,9 +19,10 @@ use Rattle.mission.specs.Mission.{mayStart, started, startedCounters, pe
 use Rattle.mission.specs.Mission.Commands.{may-start, starts}
 use Rattle.mission.specs.Mission.Frames.{mip-ticked}
 use Rattle.mission.specs.Mission.Laws.{period-pos}
-use Rattle.mission.specs.Mission.Settings.{settings-ticked, settings-started, period-same, SameSettings}
+use Rattle.conversion.specs.Conversion.Settings.{SameSettings}
+use Rattle.mission.specs.Mission.Settings.{settings-ticked, settings-started, period-same}
 use Rattle.mission.specs.Mission.Ticks.{counters-ticked, delay-ticked}
-use Rattle.mission.specs.Mission.Whole.{Whole}
+use Rattle.conversion.specs.Conversion.Whole.{Whole}
 use Rattle.mission.specs.declared.Counters.{Counters}
 
 -- tick t, counted from 1, is a conversion time of a mission with delay d and period p
