@@ -1,4 +1,5 @@
 pub mod Runs
+pub mod Refusals
 pub mod Demand1
 pub mod History
 pub mod Demand2
