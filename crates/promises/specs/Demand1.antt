@@ -23,11 +23,11 @@ use Rattle.dock.proofs.list_dump.Reads as list-dump
 use Rattle.tag.specs.declared.Answered.{Answered}
 use Rattle.tag.specs.declared.Tag.{Tag}
 use Rattle.tag.specs.Tag.{Outcome, freshTag, refusal, newImage, newTag, step}
-use Rattle.tag.specs.Tag.Laws.{step-refused, new-refused, new-good, new-made}
+use Rattle.tag.specs.Tag.Laws.{answer-taken, step-refused, new-refused, new-good, new-made}
 use Rattle.tag.proofs.event.Reads as event
 use Rattle.tag.proofs.new.Reads as new
 use Rattle.promises.specs.Refusals.{newNumber, ownNumber, eventNumber, dumpNumber}
-use Rattle.promises.specs.Refusals.Laws.{new-number, event-number, sound-number, zeros-number, dump-number}
+use Rattle.promises.specs.Refusals.Laws.{new-number, own-number, event-number, zeros-number, dump-number}
 use Rattle.promises.specs.Runs.{State, Reached}
 use Rattle.promises.specs.Runs.Laws.{reached-sound}
 
@@ -147,5 +147,5 @@ demand1 =
           ∙ zeros-number (now image) code reading;
       dumps = λ κs dump places r exit p. listing-defined (now dump) (now places) r (now (exit .1 .0)) (p .0) (p .1);
       reached = λ r code reading.
-          event-number _ _ code reading ∙ sound-number _ _ code reading (reached-sound r .size) (reached-sound r .ranges);
+          ap answerNumber (answer-taken _ _ code reading (reached-sound r .size) (reached-sound r .ranges)) ∙ own-number code reading;
     }

@@ -4,7 +4,6 @@ use mathlib.Core.Bool.{Bool, true, false, not, _&&_}
 use mathlib.Core.List.{List}
 use Prim.Native.Nat.{ℕ, zero, suc, _+_, _*_}
 use native.Mathlib.Omega.{arith}
-use borrow.Author.Tests.{eq-eqb}
 use lib.Dec.{eqb, ltb}
 use lib.ListN.{length}
 use Rattle.answer.specs.Answer.{answerNumber}
@@ -32,7 +31,7 @@ numbered false a b p q = q
 
 -- ---- events and new tags
 
-own-number : (code reading : ℕ) → answerNumber (eventAnswer code reading) ≡ ownNumber code reading
+pub own-number : (code reading : ℕ) → answerNumber (eventAnswer code reading) ≡ ownNumber code reading
 unfolding eventAnswer ownNumber
 own-number code reading = numbered (ltb 3 code) EventCode _ refl (numbered (eqb code 3 && ltb 2047 reading) Reading Accepted refl refl)
 
@@ -43,12 +42,6 @@ event-number image tag code reading =
     ap answerNumber (step-answer image tag code reading)
     ∙ numbered (not (eqb (length image) 8832)) ImageLength _ refl
     (numbered (not (keepsRanges tag)) RecordRange (eventAnswer code reading) refl (own-number code reading))
-
--- of an image of 8,832 bytes and a record in its ranges it is 0, 1 or 2
-pub sound-number : (image : List ℕ) (tag : Tag) (code reading : ℕ) → length image ≡ 8832 → tagInRange tag ≡ true →
-    eventNumber image tag code reading ≡ ownNumber code reading
-unfolding eventNumber tagInRange goodNumber goodCode goodCrc countersInRange
-sound-number image tag code reading whole inRange = rw (eq-eqb (length image) 8832 whole, inRange)
 
 -- the record of all zeros breaks its ranges
 pub zeros-number : (image : List ℕ) (code reading : ℕ) → eventNumber image (freshTag 0 0) code reading ≡ (if eqb (length image) 8832 then 6 else 3)
