@@ -22,11 +22,11 @@ use Rattle.dock.specs.Listing.Laws.{answer-listing, listing-refused, temperatur
 use Rattle.dock.proofs.list_dump.Reads as list-dump
 use Rattle.tag.specs.declared.Answered.{Answered}
 use Rattle.tag.specs.declared.Tag.{Tag}
-use Rattle.tag.specs.Tag.{Outcome, freshTag, refusal, newImage, newTag, step}
+use Rattle.tag.specs.Tag.{Outcome, refusal, newImage, newTag, step}
 use Rattle.tag.specs.Tag.Laws.{answer-taken, step-refused, new-refused, new-good, new-made}
 use Rattle.tag.proofs.event.Reads as event
 use Rattle.tag.proofs.new.Reads as new
-use Rattle.promises.specs.Refusals.{newNumber, ownNumber, eventNumber, dumpNumber}
+use Rattle.promises.specs.Refusals.{newNumber, clearTag, ownNumber, eventNumber, dumpNumber}
 use Rattle.promises.specs.Refusals.Laws.{new-number, own-number, event-number, zeros-number, dump-number}
 use Rattle.promises.specs.Runs.{State, Reached}
 use Rattle.promises.specs.Runs.Laws.{reached-sound}
@@ -63,14 +63,14 @@ pub record Demand1 : Type 2 where
   pub news : (κs : _) (image : _) (number code : ℕ) (r : Answered) (exit : _) →
       new.Post κs (image, (number, (code, tt))) r exit →
       (outcome r (now (exit .0)) ≡ newTag (now image) number code)
-      × Defined (newNumber (now image) number code) (now image) (freshTag 0 0) (outcome r (now (exit .0)))
+      × Defined (newNumber (now image) number code) (now image) (clearTag 0 0) (outcome r (now (exit .0)))
   -- "A new tag clears the lent image whatever it held, has BOR 1, everything else clear": bit 7 of 0214h
   pub cleared : (κs : _) (image : _) (number code : ℕ) (r : Answered) (exit : _) →
       new.Post κs (image, (number, (code, tt))) r exit → answerNumber (r .answer) ≡ 0 →
-      (r .tag ≡ freshTag number code) × (now (exit .0) ≡ set (replicate 8832 0) 0x0214 0x80)
+      (r .tag ≡ clearTag number code) × (now (exit .0) ≡ set (replicate 8832 0) 0x0214 0x80)
   -- "the record of all zeros, which every event refuses with 6"; with 3, if the image's length is wrong
   pub zeros : (κs : _) (image : _) (code reading : ℕ) (r : Answered) (exit : _) →
-      event.Post κs (image, (freshTag 0 0, (code, (reading, tt)))) r exit →
+      event.Post κs (image, (clearTag 0 0, (code, (reading, tt)))) r exit →
       answerNumber (r .answer) ≡ (if eqb (length (now image)) 8832 then 6 else 3)
   -- a dump: the number by "dump length 7, then line by line 7, 9, 8, then 10, 11, 12"; a refusal has zero counts, and no place changes
   pub dumps : (κs : _) (dump : _) (places : _) (r : Listing) (exit : _) →
@@ -96,7 +96,7 @@ step-defined image tag code reading =
     let number = event-number image tag code reading in
     record { answer = number; refusal = λ bad. given (step-refused image tag code reading (refuses number bad)) }
 
-new-defined : (image : List ℕ) (number code : ℕ) → Defined (newNumber image number code) image (freshTag 0 0) (newTag image number code)
+new-defined : (image : List ℕ) (number code : ℕ) → Defined (newNumber image number code) image (clearTag 0 0) (newTag image number code)
 new-defined image number code =
     let counted = new-number image number code in
     record { answer = counted; refusal = λ bad. given (new-refused image number code (refuses counted bad)) }
@@ -110,7 +110,7 @@ allowed : {r : Answered} {left : List ℕ} {o : Outcome} {number : ℕ} {image :
 allowed {number = number} {image = image} {tag = tag} p q d = (same p q, subst (Defined number image tag) (sym (same p q)) d)
 
 new-cleared : (image : List ℕ) (number code : ℕ) → newTag image number code .answered .answer ≡ Answer.Accepted →
-    (newTag image number code .answered .tag ≡ freshTag number code) × (newTag image number code .image ≡ set (replicate 8832 0) 0x0214 0x80)
+    (newTag image number code .answered .tag ≡ clearTag number code) × (newTag image number code .image ≡ set (replicate 8832 0) 0x0214 0x80)
 unfolding newImage
 new-cleared image number code e =
     let good = new-good image number code e in
@@ -143,7 +143,7 @@ demand1 =
           let made = new-cleared (now image) number code (ap (λ (a : Answered). a .answer) (sym (p .0)) ∙ accepted-is (r .answer) zero) in
           (ap (λ (a : Answered). a .tag) (p .0) ∙ made .0, p .1 ∙ made .1);
       zeros = λ κs image code reading r exit p.
-          ap (λ (a : Answered). answerNumber (a .answer)) (p .0) ∙ event-number (now image) (freshTag 0 0) code reading
+          ap (λ (a : Answered). answerNumber (a .answer)) (p .0) ∙ event-number (now image) (clearTag 0 0) code reading
           ∙ zeros-number (now image) code reading;
       dumps = λ κs dump places r exit p. listing-defined (now dump) (now places) r (now (exit .1 .0)) (p .0) (p .1);
       reached = λ r code reading.

@@ -1,10 +1,10 @@
 -- The numbers of document 01 ("Events and what they return"), in its order and by its own conditions: bytes, bits and counts. `Demand1` says
 -- that the calls answer by these. Assumes nothing.
-use mathlib.Core.Bool.{Bool, not, _&&_, _||_}
+use mathlib.Core.Bool.{Bool, false, not, _&&_, _||_}
 use mathlib.Core.List.{List}
 use Prim.Native.Nat.{ℕ, zero, suc, _+_, _*_, _/_, _%_, _^_}
 use lib.Dec.{eqb, leb, ltb}
-use lib.ListN.{length}
+use lib.ListN.{length, replicate}
 use Rattle.bits.specs.Bits.{bitOf}
 use Rattle.bits.specs.Choose.{if_then_else_}
 use Rattle.crc.specs.Crc.{crc8Of}
@@ -12,6 +12,8 @@ use Rattle.dock.specs.Entries.{entries, places, held}
 use Rattle.dump.specs.Check.{formed, crcRight}
 use Rattle.dump.specs.Lines.{pageOf, lineAt, bytesIn, pageIn, dumpedAt}
 use Rattle.exchange.specs.Exchange.{exchangeInRange}
+use Rattle.memory.specs.declared.Stage.{Stage}
+use Rattle.select.specs.declared.Choosing.the-variants.{Silent}
 use Rattle.tag.specs.declared.Tag.{Tag}
 pub mod Laws
 
@@ -33,6 +35,20 @@ newNumber image number code =
     else if not (isRom number) then 4
     else if not (isConfiguration code) then 5
     else 0
+
+-- "a refused new tag: the record of all zeros"; one that is accepted: "everything else clear", and silent, since it "waits for a reset"
+abbrev pub clearTag : ℕ → ℕ → Tag
+clearTag number code =
+    record {
+      code = code;
+      counters = record { reading = 0; minute = 0; wait = 0 };
+      exchange = record {
+        number = number;
+        select = record { choosing = Silent; mark = false };
+        held = record { pad = replicate 32 0; ta = 0; ending = 0; pf = false; aa = false };
+        bus = record { stage = Stage.Over; byte = 0; at = 0; crc = 0; address = 0; status = 0; field = 0 };
+      };
+    }
 
 -- ---- "event 3, 6, 1, 2"
 

@@ -19,9 +19,9 @@ use Rattle.dump.specs.Check.{formed, crcRight, checkText, checkLine, firstRefus
 use Rattle.dump.specs.Lines.{pageOf, lineAt, bytesIn, pageIn, dumpedAt}
 use Rattle.mission.specs.Mission.{countersInRange}
 use Rattle.tag.specs.declared.Tag.{Tag}
-use Rattle.tag.specs.Tag.{goodNumber, goodCode, tagInRange, freshTag, newTag, step}
+use Rattle.tag.specs.Tag.{goodNumber, goodCode, tagInRange, newTag, step}
 use Rattle.tag.specs.Tag.Laws.{eventAnswer, stepAnswer, newAnswer, step-answer, new-answer}
-use Rattle.promises.specs.Refusals.{isRom, isConfiguration, keepsRanges, newNumber, ownNumber, eventNumber, firstOf, lineNumber, linesNumber, cannotBe, contentNumber, dumpNumber}
+use Rattle.promises.specs.Refusals.{isRom, isConfiguration, newNumber, clearTag, keepsRanges, ownNumber, eventNumber, firstOf, lineNumber, linesNumber, cannotBe, contentNumber, dumpNumber}
 
 -- the number of an answer that is chosen is chosen by the same test
 numbered : (test : Bool) (a b : Answer) {m n : ℕ} → answerNumber a ≡ m → answerNumber b ≡ n →
@@ -44,7 +44,7 @@ event-number image tag code reading =
     (numbered (not (keepsRanges tag)) RecordRange (eventAnswer code reading) refl (own-number code reading))
 
 -- the record of all zeros breaks its ranges
-pub zeros-number : (image : List ℕ) (code reading : ℕ) → eventNumber image (freshTag 0 0) code reading ≡ (if eqb (length image) 8832 then 6 else 3)
+pub zeros-number : (image : List ℕ) (code reading : ℕ) → eventNumber image (clearTag 0 0) code reading ≡ (if eqb (length image) 8832 then 6 else 3)
 unfolding eventNumber
 zeros-number image code reading = by (eqb (length image) 8832)
   where
