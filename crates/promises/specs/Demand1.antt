@@ -26,7 +26,7 @@ use Rattle.tag.specs.Tag.{Outcome, refusal, newImage, newTag, step}
 use Rattle.tag.specs.Tag.Laws.{answer-taken, step-refused, new-refused, new-good, new-made}
 use Rattle.tag.proofs.event.Reads as event
 use Rattle.tag.proofs.new.Reads as new
-use Rattle.promises.specs.Refusals.{newNumber, clearTag, ownNumber, eventNumber, dumpNumber}
+use Rattle.promises.specs.Refusals.{newNumber, clearTag, ownNumber, eventNumber, dumpNumber, zeroCounts}
 use Rattle.promises.specs.Refusals.Laws.{new-number, own-number, event-number, zeros-number, dump-number}
 use Rattle.promises.specs.Runs.{State, Reached}
 use Rattle.promises.specs.Runs.Laws.{reached-sound}
@@ -45,7 +45,7 @@ pub record DefinedListing (dump : List ℕ) (lent : List ℤ) (listing : Listing
   pub listed : listing ≡ listingOf dump (length lent)
   pub places : left ≡ temperaturesOf dump lent
   pub answer : answerNumber (listing .answer) ≡ dumpNumber dump (length lent)
-  pub refusal : dumpNumber dump (length lent) ≢ 0 → (listing ≡ refused (listing .answer)) × (left ≡ lent)
+  pub refusal : dumpNumber dump (length lent) ≢ 0 → (listing ≡ zeroCounts (listing .answer)) × (left ≡ lent)
 
 -- `event.Post`, `new.Post` and `list-dump.Post` are the contracts as the source states them, over lifetimes, arguments, result and the
 -- arguments at exit; `Asked` is what a caller must show of the arguments. The numbers are those of `Refusals`
@@ -118,7 +118,7 @@ new-cleared image number code e =
 
 listing-defined : (dump : List ℕ) (lent : List ℤ) (listing : Listing) (left : List ℤ) → listing ≡ listingOf dump (length lent)
     → left ≡ temperaturesOf dump lent → DefinedListing dump lent listing left
-unfolding accepted
+unfolding accepted refused
 listing-defined dump lent listing left p q =
     let answered = ap (λ (l : Listing). l .answer) p ∙ answer-listing dump (length lent) in
     let number = dump-number dump (length lent) in
@@ -128,7 +128,7 @@ listing-defined dump lent listing left p q =
       places = q;
       answer = ap answerNumber answered ∙ number;
       refusal = λ n.
-          (p ∙ listing-refused dump (length lent) (no n) ∙ ap refused (sym answered), q ∙ temperatures-refused dump lent (no n));
+          (p ∙ listing-refused dump (length lent) (no n) ∙ ap zeroCounts (sym answered), q ∙ temperatures-refused dump lent (no n));
     }
 
 pub demand1 : Demand1

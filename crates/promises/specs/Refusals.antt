@@ -5,9 +5,11 @@ use mathlib.Core.List.{List}
 use Prim.Native.Nat.{ℕ, zero, suc, _+_, _*_, _/_, _%_, _^_}
 use lib.Dec.{eqb, leb, ltb}
 use lib.ListN.{length, replicate}
+use Rattle.answer.specs.declared.Answer.{Answer}
 use Rattle.bits.specs.Bits.{bitOf}
 use Rattle.bits.specs.Choose.{if_then_else_}
 use Rattle.crc.specs.Crc.{crc8Of}
+use Rattle.dock.specs.declared.Listing.{Listing}
 use Rattle.dock.specs.Entries.{entries, places, held}
 use Rattle.dump.specs.Check.{formed, crcRight}
 use Rattle.dump.specs.Lines.{pageOf, lineAt, bytesIn, pageIn, dumpedAt}
@@ -119,3 +121,8 @@ unfoldable pub dumpNumber : List ℕ → ℕ → ℕ
 dumpNumber dump lent =
     if not (eqb (length dump) 18834) then 7
     else firstOf (linesNumber dump 0 258) (contentNumber (dumpedAt dump) lent)
+
+-- "A refusal returns .. zero counts"
+abbrev pub zeroCounts : Answer → Listing
+zeroCounts answer =
+    record { answer = answer; code = 0; held = 0; first = 0; stamp = replicate 6 0; rate = 0; ehss = false; suta = false }
