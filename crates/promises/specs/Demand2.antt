@@ -95,7 +95,7 @@ pub demand2 : {s : State} (e : Event) (events : List Event) (lent : List â„¤) â†
 demand2 {s} e events lent reached starts always =
     let start = after s e in
     let began = starts-after e (reached-solid reached) starts in
-    let sound = solid-run events (began .solid) always .sound in
+    let sound = solid-run events (began .solid) .sound in
     lists (listed-run {readings = []} events (began .solid) (began .holds) always) (run start events .state .tag .code)
     (history-le (settingsOf (start .image)) (missionTicks start events))
     (ranges-of (run start events .state .tag) (sound .ranges) .code)

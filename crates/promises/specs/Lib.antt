@@ -1,8 +1,10 @@
 pub mod Runs
+pub mod Refusals
 pub mod Demand1
 pub mod History
 pub mod Demand2
 pub mod Demand3
+pub mod Calls
 pub mod Line
 pub mod Determinacy
 pub mod Points

@@ -1,6 +1,6 @@
 -- A mission from its Start on, over any events that spare its registers: what its image holds at the end is its history.
 -- Assumes nothing.
-use mathlib.Core.Path.{_≡_, refl, sym, ap, _∙_}
+use mathlib.Core.Path.{_≡_, refl, sym, _∙_}
 use mathlib.Core.Bool.{Bool, true, false, _&&_, false≢true}
 use mathlib.Core.List.{List, [], _∷_, _++_, append-nil}
 use mathlib.Core.Logic.{_⊎_, dite}
@@ -8,14 +8,14 @@ use Prim.Native.Nat.{ℕ, _≤_, _<_}
 use native.Mathlib.Nat.{zero-sub, not-suc-le-zero}
 use native.Mathlib.Decide.{decLt}
 use native.Mathlib.Omega.{arith}
+use borrow.Author.Tests.{leb-true, leb-false}
+use lib.Dec.{leb}
 use lib.ListN.{take, replicate}
 use lib.Seq.{take-nil, drop-nil, append-snoc, getD-set-other}
-use Rattle.answer.specs.Answer.{answerNumber}
-use Rattle.answer.specs.declared.Answer.{Answer}
 use Rattle.bits.specs.Bits.{digit}
 use Rattle.bits.specs.Bits.Laws.{bit-past}
 use Rattle.bits.specs.Bytes.{bytes-set, byte-blank, bytes-blank}
-use Rattle.bits.specs.Choose.{if_then_else_, choice}
+use Rattle.bits.specs.Choose.{if_then_else_, either, choice}
 use Rattle.calendar.specs.Calendar.{clockAfter}
 use Rattle.exchange.specs.Exchange as exchange
 use Rattle.exchange.specs.Exchange.Pad.{PaddedIn, exchange-padded, reset-padded, new-padded}
@@ -44,8 +44,8 @@ use Rattle.promises.specs.Demand2.AtStart.{settingsOf}
 use Rattle.promises.specs.Demand2.Ticks.{holds-ticked}
 use Rattle.promises.specs.History
 use Rattle.promises.specs.History.{Settings, Conversion}
-use Rattle.promises.specs.Runs.{State, Event, after, Accepts, run, Reached, Always}
-use Rattle.promises.specs.Runs.Laws.{Sound, sound-after, reached-sound, slot-happens, reset-happens, tick-happens, tick-refused, Valid}
+use Rattle.promises.specs.Runs.{State, Event, after, run, Reached, Always}
+use Rattle.promises.specs.Runs.Laws.{Sound, sound-after, reached-sound, slot-happens, reset-happens, tick-happens, tick-passed}
 
 -- ---- what every reached state has
 
@@ -106,8 +106,8 @@ slot-padded : {s : State} → Solid s → (bit : Bool) → PaddedIn (slotAt s bi
 unfolding slotAt
 slot-padded {s} solid bit = exchange-padded (s .tag .exchange) bit _ (solid .padded)
 
-pub solid-after : {s : State} → Solid s → (e : Event) → Valid e → Solid (after s e)
-solid-after {s} solid (Event.slot bit) valid =
+pub solid-after : {s : State} → Solid s → (e : Event) → Solid (after s e)
+solid-after {s} solid (Event.slot bit) =
     let both = performed-whole (slotAt s bit .deed) solid bit in
     record {
       sound = sound-after (Event.slot bit) (solid .sound);
@@ -115,20 +115,23 @@ solid-after {s} solid (Event.slot bit) valid =
       padded = rw (slot-leaves solid bit) (slot-padded solid bit);
       fresh = rw (slot-leaves solid bit) (both .1);
     }
-solid-after {s} solid Event.reset valid =
+solid-after {s} solid Event.reset =
     record {
       sound = sound-after Event.reset (solid .sound);
       whole = rw (reset-leaves solid) (solid .whole);
       padded = rw (reset-leaves solid) (reset-padded (s .tag .exchange) (solid .padded));
       fresh = rw (reset-leaves solid) (solid .fresh);
     }
-solid-after {s} solid (Event.tick reading) valid =
+solid-after {s} solid (Event.tick reading) =
+    dite (decLt 2047 reading) (λ high. rw (tick-passed (solid .sound) reading high) solid)
+    (λ low.
+    let leaves = tick-leaves solid reading (omega arith) in
     record {
       sound = sound-after (Event.tick reading) (solid .sound);
-      whole = rw (tick-leaves solid reading valid) (whole-ticked (s .tag .counters) reading (solid .whole));
-      padded = rw (tick-leaves solid reading valid) (solid .padded);
-      fresh = rw (tick-leaves solid reading valid) (fresh-ticked (solid .fresh) (s .tag .counters) reading);
-    }
+      whole = rw leaves (whole-ticked (s .tag .counters) reading (solid .whole));
+      padded = rw leaves (solid .padded);
+      fresh = rw leaves (fresh-ticked (solid .fresh) (s .tag .counters) reading);
+    })
 
 -- ---- Start
 
@@ -187,7 +190,7 @@ pub starts-after : {s : State} (e : Event) → Solid s → Starts s e → Starte
 unfolding deedAt performed performedCounters
 starts-after {s} (Event.slot bit) solid starts =
     record {
-      solid = solid-after solid (Event.slot bit) tt;
+      solid = solid-after solid (Event.slot bit);
       holds = rw (slot-leaves solid bit, starts .command)
           (holds-started (solid .whole) (solid .fresh) (starts .may) (s .tag .counters));
       etl = rw (slot-leaves solid bit, starts .command) (etl-started (s .image) (starts .may));
@@ -214,7 +217,8 @@ stopped-after {s = s} solid (Event.slot bit) spares h =
     (stopped-performed (s .tag .counters) (slotAt s bit .exchange) (slot-padded solid bit) (slotAt s bit .deed) (slot-stores solid bit spares) (slot-clears bit spares) h)
 stopped-after solid Event.reset spares h = rw (reset-leaves solid) h
 stopped-after {s = s} solid (Event.tick reading) spares h =
-    rw (tick-leaves solid reading (spares .valid)) (stopped-ticked (s .tag .counters) reading h)
+    dite (decLt 2047 reading) (λ high. rw (tick-passed (solid .sound) reading high) h)
+    (λ low. rw (tick-leaves solid reading (omega arith)) (stopped-ticked (s .tag .counters) reading h))
 
 -- after a Stop what a listing goes by stays
 stopped-run : {start : List ℕ} {es : List Conversion} {s : State} (events : List Event) → Solid s → Stopped start es (s .image)
@@ -222,7 +226,7 @@ stopped-run : {start : List ℕ} {es : List Conversion} {s : State} (events : Li
 unfolding run Always
 stopped-run [] solid h always = h .listed
 stopped-run (e ∷ events) solid h always =
-    stopped-run events (solid-after solid e (always .0 .valid)) (stopped-after solid e (always .0) h) (always .1)
+    stopped-run events (solid-after solid e) (stopped-after solid e (always .0) h) (always .1)
 
 stop-deed : (deed : Deed) → isStop deed ≡ true → deed ≡ Deed.Stop
 unfolding isStop
@@ -240,10 +244,10 @@ stop-after : {start readings : List ℕ} {s : State} → Solid s → (bit : Bool
 unfolding performed
 stop-after {s = s} solid bit e h = rw (slot-leaves solid bit, stop-deed (slotAt s bit .deed) e) (stopped-stop (h .listed))
 
-pub solid-run : {s : State} (events : List Event) → Solid s → Always Spares s events → Solid (run s events .state)
-unfolding run Always
-solid-run [] solid always = solid
-solid-run (e ∷ events) solid always = solid-run events (solid-after solid e (always .0 .valid)) (always .1)
+pub solid-run : {s : State} (events : List Event) → Solid s → Solid (run s events .state)
+unfolding run
+solid-run [] solid = solid
+solid-run (e ∷ events) solid = solid-run events (solid-after solid e)
 
 -- over any events that spare the mission, its image holds the history of its ticks
 pub listed-run : {start readings : List ℕ} {s : State} (events : List Event) → Solid s → Holds start readings (s .image) (s .tag .counters)
@@ -251,17 +255,21 @@ pub listed-run : {start readings : List ℕ} {s : State} (events : List Event) �
     → Listed start (History.history (settingsOf start) (readings ++ missionTicks s events)) (run s events .state .image)
 unfolding run Always missionTicks deedAt
 listed-run {readings = readings} [] solid h always = rw (append-nil readings) (h .listed)
-listed-run {readings = readings} {s = s} (Event.tick reading ∷ events) solid h always =
-    let small = always .0 .valid in
+listed-run {start} {readings} {s} (Event.tick reading ∷ events) solid h always =
+    let next = solid-after solid (Event.tick reading) in
+    either
+    (λ (ticks : List ℕ). Listed start (History.history (settingsOf start) (readings ++ ticks)) (run (after s (Event.tick reading)) events .state .image))
+    (leb reading 2047)
+    (λ low.
+    let small = leb-true reading 2047 low in
     rw (← append-snoc readings reading (missionTicks (after s (Event.tick reading)) events))
-    (listed-run {readings = readings ++ reading ∷ []} events (solid-after solid (Event.tick reading) small)
-    (rw (tick-leaves solid reading small) (holds-ticked h reading small))
-    (always .1))
+    (listed-run {readings = readings ++ reading ∷ []} events next (rw (tick-leaves solid reading small) (holds-ticked h reading small)) (always .1)))
+    (λ high. listed-run {readings = readings} events next (rw (tick-passed (solid .sound) reading (leb-false reading 2047 high)) h) (always .1))
 listed-run {readings = readings} (Event.reset ∷ events) solid h always =
-    listed-run {readings = readings} events (solid-after solid Event.reset tt) (rw (reset-leaves solid) h) (always .1)
+    listed-run {readings = readings} events (solid-after solid Event.reset) (rw (reset-leaves solid) h) (always .1)
 listed-run {start} {readings} {s} (Event.slot bit ∷ events) solid h always =
     by-deed (isStop (slotAt s bit .deed)) refl
-    (λ going. listed-run {readings = readings} events (solid-after solid (Event.slot bit) tt)
+    (λ going. listed-run {readings = readings} events (solid-after solid (Event.slot bit))
     (rw (slot-leaves solid bit)
     (holds-performed (slotAt s bit .exchange) (slot-padded solid bit) (slotAt s bit .deed) going (slot-stores solid bit (always .0)) h))
     (always .1))
@@ -274,7 +282,7 @@ listed-run {start} {readings} {s} (Event.slot bit ∷ events) solid h always =
         (run (after s (Event.slot bit)) events .state .image)
     by-deed true e on =
         rw (append-nil readings)
-        (stopped-run events (solid-after solid (Event.slot bit) tt) (stop-after solid bit e h) (always .1))
+        (stopped-run events (solid-after solid (Event.slot bit)) (stop-after solid bit e h) (always .1))
     by-deed false e on = on e
 
 -- ---- reached states are solid
@@ -291,19 +299,6 @@ fresh-new e =
     let zero = getD-set-other {A = ℕ} (replicate 8832 0) 0x0214 0x0215 0x80 0 (omega arith) ∙ byte-blank 8832 0x0215 in
     absurd (false≢true (sym (rw zero (bit-past 0 (omega arith) (omega arith))) ∙ e))
 
-accepted-valid : {s : State} → Sound s → (e : Event) → Accepts s e → Valid e
-accepted-valid sound (Event.slot bit) a = tt
-accepted-valid sound Event.reset a = tt
-accepted-valid {s} sound (Event.tick reading) a = dite (decLt 2047 reading) high (λ low. omega arith)
-  where
-    high : 2047 < reading → reading ≤ 2047
-    high h =
-        let two : answerNumber Answer.Reading ≡ answerNumber Answer.Accepted = ap answerNumber (rw (tick-refused sound reading h) at a) in
-        absurd (apart two)
-      where
-        apart : answerNumber Answer.Reading ≡ answerNumber Answer.Accepted → ⊥
-        apart e = omega arith
-
 pub reached-solid : {s : State} → Reached s → Solid s
 reached-solid (Reached.new image number code e) =
     let good = new-good image number code e in
@@ -311,5 +306,4 @@ reached-solid (Reached.new image number code e) =
     let sound = reached-sound (Reached.new image number code e) in
     rw made
     (record { sound = rw made at sound; whole = whole-new; padded = new-padded number; fresh = fresh-new })
-reached-solid (Reached.event e before accepted) =
-    solid-after (reached-solid before) e (accepted-valid (reached-sound before) e accepted)
+reached-solid (Reached.event e before accepted) = solid-after (reached-solid before) e

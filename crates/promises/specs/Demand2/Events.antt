@@ -4,6 +4,7 @@ use mathlib.Core.Bool.{Bool, true, false}
 use mathlib.Core.List.{List, [], _∷_}
 use mathlib.Core.Logic.{_⊎_}
 use Prim.Native.Nat.{ℕ, _≤_, _<_}
+use lib.Dec.{leb}
 use Rattle.bits.specs.Choose.{if_then_else_}
 use Rattle.exchange.specs.declared.Slotted.{Slotted}
 use Rattle.exchange.specs.Exchange as exchange
@@ -12,7 +13,6 @@ use Rattle.bus.specs.declared.Deed.{Deed}
 use Rattle.mission.specs.Mission
 use Rattle.tag.specs.Tag.{answerTo}
 use Rattle.promises.specs.Runs.{State, Event, after}
-use Rattle.promises.specs.Runs.Laws.{Valid}
 
 -- a slot, answered by the image
 unfoldable pub slotAt : State → Bool → Slotted
@@ -35,14 +35,12 @@ pub record Starts (s : State) (e : Event) : Type 0 where
 
 -- ---- "with no register written and no Clear done"
 
--- a tick has a valid reading; a Copy that is done here stores below 0200h or from 0240h on; a Clear is not done, since a mission
--- runs
+-- a Copy that is done here stores below 0200h or from 0240h on; a Clear is not done, since a mission runs. Refused events may come
 pub record Spares (s : State) (e : Event) : Type 0 where
-  pub valid : Valid e
   pub store : deedAt s e ≡ Deed.Store → (after s e .tag .exchange .held .ta < 0x0200) ⊎ (0x0240 ≤ after s e .tag .exchange .held .ta)
   pub clear : deedAt s e ≡ Deed.Clear → Registers.mip (s .image) ≡ true
 
--- ---- the mission's ticks: those up to the first Stop
+-- ---- the mission's ticks: those up to the first Stop; one with a reading above 2047 is refused, and is none
 
 unfoldable pub isStop : Deed → Bool
 isStop Deed.Stop = true
@@ -54,7 +52,9 @@ isStop Deed.Convert = false
 
 unfoldable pub missionTicks : State → List Event → List ℕ
 missionTicks s [] = []
-missionTicks s (Event.tick reading ∷ es) = reading ∷ missionTicks (after s (Event.tick reading)) es
+missionTicks s (Event.tick reading ∷ es) =
+    let rest = missionTicks (after s (Event.tick reading)) es in
+    if leb reading 2047 then reading ∷ rest else rest
 missionTicks s (Event.reset ∷ es) = missionTicks (after s Event.reset) es
 missionTicks s (Event.slot bit ∷ es) =
     if isStop (deedAt s (Event.slot bit)) then [] else missionTicks (after s (Event.slot bit)) es

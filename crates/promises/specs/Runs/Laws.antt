@@ -159,6 +159,11 @@ module _ {s : State} (sound : Sound s) where
   tick-refused reading high =
       step-taken (s .image) (s .tag) 3 reading (sound .size) (sound .ranges) ∙ rw (lt-ltb 2047 reading high)
 
+  -- and changes nothing
+  pub tick-passed : (reading : ℕ) → 2047 < reading → after s (Event.tick reading) ≡ s
+  unfolding after
+  tick-passed reading high = rw (tick-refused reading high)
+
 -- ---- no event changes the number
 
 pub number-after : {s : State} (e : Event) → Sound s → after s e .tag .exchange .number ≡ s .tag .exchange .number
@@ -188,9 +193,16 @@ sound-accepts sound (Event.slot bit) valid = rw (slot-happens sound bit)
 sound-accepts sound Event.reset valid = rw (reset-happens sound)
 sound-accepts sound (Event.tick reading) valid = rw (tick-happens sound reading valid)
 
--- what valid events lead to from a reached state is reached
-pub reached-run : {s : State} (es : List Event) → Reached s → Always (λ u e. Valid e) s es → Reached (run s es .state)
-unfolding run Always
-reached-run [] r valid = r
-reached-run (e ∷ es) r valid =
-    reached-run es (Reached.event e r (sound-accepts (reached-sound r) e (valid .0))) (valid .1)
+-- ---- what any events lead to from a reached state is reached
+
+pub reached-after : {s : State} → Reached s → (e : Event) → Reached (after s e)
+reached-after r (Event.slot bit) = Reached.event (Event.slot bit) r (sound-accepts (reached-sound r) (Event.slot bit) tt)
+reached-after r Event.reset = Reached.event Event.reset r (sound-accepts (reached-sound r) Event.reset tt)
+reached-after r (Event.tick reading) =
+    dite (decLe reading 2047) (λ small. Reached.event (Event.tick reading) r (sound-accepts (reached-sound r) (Event.tick reading) small))
+    (λ high. rw (tick-passed (reached-sound r) reading (omega arith)) r)
+
+pub reached-run : {s : State} (es : List Event) → Reached s → Reached (run s es .state)
+unfolding run
+reached-run [] r = r
+reached-run (e ∷ es) r = reached-run es (reached-after r e)

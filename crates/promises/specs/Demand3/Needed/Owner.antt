@@ -3,7 +3,7 @@
 -- Assumes nothing.
 use mathlib.Core.Path.{_≡_, refl, ap, _∙_}
 use mathlib.Core.Bool.{Bool, true, false}
-use mathlib.Core.List.{List, [], _∷_, _++_, map}
+use mathlib.Core.List.{List, _∷_, _++_, map}
 use Prim.Native.Nat.{ℕ, _+_, _%_, _<_}
 use native.Mathlib.Omega.{arith}
 use lib.ListN.{length}
@@ -29,8 +29,8 @@ use Rattle.promises.specs.Line.Controlling.{controlSlots, clears}
 use Rattle.promises.specs.Line.Pad.{padOf, reached-pad}
 use Rattle.promises.specs.Line.Slots.{numberOf}
 use Rattle.promises.specs.Line.Storing.{writeSlots, writes-scratchpad, copySlots, writes-and-copies}
-use Rattle.promises.specs.Runs.{State, Event, after, Ran, run, Reached, Always}
-use Rattle.promises.specs.Runs.Laws.{Sound, Valid, reached-run, reached-sound, number-run, reset-happens}
+use Rattle.promises.specs.Runs.{State, Event, after, Ran, run, Reached}
+use Rattle.promises.specs.Runs.Laws.{Sound, reached-run, reached-sound, number-run, reset-happens}
 
 -- ---- a reset, Skip, and a command's slots
 
@@ -40,14 +40,8 @@ skipping bits = Event.reset ∷ map Event.slot (bitsOf 8 0xCC ++ bits)
 abbrev told : State → List Bool → State
 told s bits = run s (skipping bits) .state
 
--- all of them are accepted
 told-reached : {s : State} (bits : List Bool) → Reached s → Reached (told s bits)
-unfolding Always
-told-reached {s} bits r = reached-run (skipping bits) r (tt, valid (after s Event.reset) (bitsOf 8 0xCC ++ bits))
-  where
-    valid : (s : State) (bits : List Bool) → Always (λ u e. Valid e) s (map Event.slot bits)
-    valid s [] = tt
-    valid s (bit ∷ bits) = (tt, valid (after s (Event.slot bit)) bits)
+told-reached bits = reached-run (skipping bits)
 
 -- ---- the commands; any field passes
 

@@ -1,0 +1,81 @@
+-- Calls of `tag::new` and `tag::event` one after the other, as their own contracts have them: they lead to reached states, and the caller
+-- sees the line bits and gets the state that `run` gives. So what is said of `run`, demands 2 and 3 too, is said of the code. `calls` in
+-- Calls/Proof.antt proves it. Assumes nothing.
+use mathlib.Core.Path.{_≡_}
+use mathlib.Core.Bool.{Bool, true, false, _&&_}
+use mathlib.Core.List.{List, [], _∷_}
+use Prim.Native.Nat.{ℕ}
+use lib.Dec.{eqb, leb}
+use lib.IntN.{ℤ}
+use denote.Ref.{now}
+use Rattle.answer.specs.Answer.{answerNumber}
+use Rattle.bits.specs.Choose.{if_then_else_}
+use Rattle.dump.specs.Dump.{dumpOf}
+use Rattle.tag.specs.declared.Answered.{Answered}
+use Rattle.tag.proofs.event.Reads as event
+use Rattle.tag.proofs.new.Reads as new
+use Rattle.promises.specs.Demand2.{Lists}
+use Rattle.promises.specs.Demand2.AtStart.{settingsOf}
+use Rattle.promises.specs.Demand2.Events.{Starts, Spares, missionTicks}
+use Rattle.promises.specs.Demand3.{Premises}
+use Rattle.promises.specs.History
+use Rattle.promises.specs.Runs.{State, Event, after, run, Reached, Always}
+pub mod Proof
+
+-- ---- a call
+
+-- `tag::new` met its contract: it accepted, and left this state
+pub data Made : State → Type 2 where
+  made : (κs : _) (image : _) (number code : ℕ) (r : Answered) (exit : _) → new.Post κs (image, (number, (code, tt))) r exit →
+      answerNumber (r .answer) ≡ 0 → Made (record { image = now (exit .0); tag = r .tag })
+
+-- `tag::event` met its contract: from one state, with this code and reading, it put this bit on the line, and left the other state
+pub data Called (s : State) (code reading : ℕ) : Bool → State → Type 2 where
+  called : (κs : _) (image : _) (r : Answered) (exit : _) → event.Post κs (image, (s .tag, (code, (reading, tt)))) r exit →
+      now image ≡ s .image → Called s code reading (r .line) (record { image = now (exit .0); tag = r .tag })
+
+-- ---- one after the other
+
+-- "An event is a code and a reading: 0 slot with the line held low, 1 slot with the line released, 2 reset, 3 tick of one second. The
+-- reading counts only with code 3." A code above 3 and a tick with a reading above 2047 are refused
+pub data Meaning : Type 0 where
+  taken : Event → Meaning
+  refused : Meaning
+
+unfoldable pub meaningOf : ℕ → ℕ → Meaning
+meaningOf code reading =
+    if eqb code 0 then Meaning.taken (Event.slot false)
+    else if eqb code 1 then Meaning.taken (Event.slot true)
+    else if eqb code 2 then Meaning.taken Event.reset
+    else if eqb code 3 && leb reading 2047 then Meaning.taken (Event.tick reading)
+    else Meaning.refused
+
+-- calls with any codes and readings: the events that were taken, their line bits, and between them whatever was refused
+pub data Chain : State → List Event → List Bool → State → Type 2 where
+  none : {s : State} → Chain s [] [] s
+  taken : {s t u : State} {e : Event} {es : List Event} {bit : Bool} {bits : List Bool} (code reading : ℕ) →
+      meaningOf code reading ≡ Meaning.taken e → Called s code reading bit t → Chain t es bits u → Chain s (e ∷ es) (bit ∷ bits) u
+  refused : {s t u : State} {es : List Event} {bit : Bool} {bits : List Bool} (code reading : ℕ) →
+      meaningOf code reading ≡ Meaning.refused → Called s code reading bit t → Chain t es bits u → Chain s es bits u
+
+-- ---- what holds of them
+
+pub record Calls : Type 2 where
+  -- "tags reached from a new one by events": whatever code and reading come, refused ones too, the state is a reached one again
+  pub made : {s : State} → Made s → Reached s
+  pub again : {s t : State} {code reading : ℕ} {bit : Bool} → Reached s → Called s code reading bit t → Reached t
+  -- a refused call gives 1 and changes nothing
+  pub refused : {s t : State} {code reading : ℕ} {bit : Bool} → Reached s → meaningOf code reading ≡ Meaning.refused →
+      Called s code reading bit t → (bit ≡ true) × (t ≡ s)
+  -- those that are taken give `run`'s line bits and state
+  pub taken : {s t : State} {events : List Event} {bits : List Bool} → Reached s → Chain s events bits t →
+      run s events ≡ record { line = bits; state = t }
+  -- demand 2, of the calls after the slot in which Start was done
+  pub listing : {s end : State} {e : Event} {events : List Event} {bits : List Bool} (lent : List ℤ) → Reached s → Starts s e →
+      Always Spares (after s e) events → Chain (after s e) events bits end →
+      let settings = settingsOf (after s e .image) in
+      Lists settings (History.history settings (missionTicks (after s e) events)) (end .tag .code)
+      (dumpOf (end .image) (end .tag .code)) lent
+  -- demand 3, of the calls of two tags
+  pub line : {s t u v : State} {E F : List Event} {seen other : List Bool} → Premises s t E F → Chain s E seen u → Chain t F other v →
+      seen ≡ other

@@ -1,0 +1,131 @@
+-- One call is one event, or is refused; calls one after the other are a run. Assumes nothing.
+use mathlib.Core.Path.{_≡_, refl, sym, ap, subst, _∙_}
+use mathlib.Core.Bool.{Bool, true, false, _&&_}
+use mathlib.Core.List.{List, _∷_}
+use Prim.Native.Nat.{ℕ}
+use native.Mathlib.Omega.{arith}
+use borrow.Author.Tests.{eqb-true, eqb-false, leb-true, leb-false}
+use lib.Dec.{eqb, leb}
+use denote.Ref.{now}
+use Rattle.answer.specs.Answer.Laws.{accepted-is}
+use Rattle.bits.specs.Choose.{if_then_else_}
+use Rattle.dump.specs.Dump.{dumpOf}
+use Rattle.tag.specs.declared.Answered.{Answered}
+use Rattle.tag.specs.Tag.{Outcome, eventOf, step}
+use Rattle.tag.specs.Tag.Laws.{step-taken, event-tick, event-reading, event-other}
+use Rattle.promises.specs.Calls.{Made, Called, Meaning, meaningOf, Chain, Calls}
+use Rattle.promises.specs.Demand2.{Lists, demand2}
+use Rattle.promises.specs.Demand2.AtStart.{settingsOf}
+use Rattle.promises.specs.Demand2.Events.{missionTicks}
+use Rattle.promises.specs.Demand3.{JustReset}
+use Rattle.promises.specs.Demand3.Proof.{demand3}
+use Rattle.promises.specs.History
+use Rattle.promises.specs.Runs.{State, Event, leaves, happens, after, lineBit, Ran, run, Reached}
+use Rattle.promises.specs.Runs.Laws.{Sound, reached-sound, slot-happens, reset-happens, tick-happens, reached-after}
+
+-- ---- one call, by what it is taken for
+
+-- its outcome is the event's, or a refusal's
+Gives : State → Outcome → Meaning → Type 0
+Gives s o (Meaning.taken e) = o ≡ happens s e
+Gives s o Meaning.refused = (o .answered .line ≡ true) × (leaves o ≡ s)
+
+step-gives : {s : State} → Sound s → (code reading : ℕ) → Gives s (step (s .image) (s .tag) code reading) (meaningOf code reading)
+unfolding Gives meaningOf eventOf
+step-gives {s} sound code reading =
+    rw (step-taken (s .image) (s .tag) code reading (sound .size) (sound .ranges))
+    (by (eqb code 0) (eqb code 1) (eqb code 2) (eqb code 3) (leb reading 2047) refl refl refl refl refl)
+  where
+    by : (zero one two three small : Bool) →
+        eqb code 0 ≡ zero → eqb code 1 ≡ one → eqb code 2 ≡ two → eqb code 3 ≡ three → leb reading 2047 ≡ small →
+        Gives s (eventOf (s .image) (s .tag) code reading)
+        (if zero then Meaning.taken (Event.slot false)
+        else if one then Meaning.taken (Event.slot true)
+        else if two then Meaning.taken Event.reset
+        else if three && small then Meaning.taken (Event.tick reading)
+        else Meaning.refused)
+    by true one two three small p q r t h = rw (eqb-true code 0 p) (sym (slot-happens sound false))
+    by false true two three small p q r t h = rw (eqb-true code 1 q) (sym (slot-happens sound true))
+    by false false true three small p q r t h = rw (eqb-true code 2 r) (sym (reset-happens sound))
+    by false false false true true p q r t h =
+        let low = leb-true reading 2047 h in
+        event-tick (s .image) (s .tag) code reading (eqb-true code 3 t) low ∙ sym (tick-happens sound reading low)
+    by false false false true false p q r t h =
+        rw (event-reading (s .image) (s .tag) code reading (eqb-true code 3 t) (leb-false reading 2047 h)) (refl, refl)
+    by false false false false small p q r t h =
+        rw (event-other (s .image) (s .tag) code reading (omega (arith, eqb-false code 0 p, eqb-false code 1 q)) (eqb-false code 2 r) (eqb-false code 3 t))
+        (refl, refl)
+
+-- what a call that met its contract saw and left is the definition's
+called-step : {s t : State} {code reading : ℕ} {bit : Bool} → Called s code reading bit t →
+    let o = step (s .image) (s .tag) code reading in (bit ≡ o .answered .line) × (t ≡ leaves o)
+called-step {s} {code = code} {reading = reading} (Called.called κs image r exit p e) =
+    let o : List ℕ → Outcome = λ image. step image (s .tag) code reading in
+    let answered = p .0 ∙ ap (λ i. o i .answered) e in
+    let left = p .1 ∙ ap (λ i. o i .image) e in
+    (ap (λ (a : Answered). a .line) answered, λ i. record { image = left i; tag = answered i .tag })
+
+module _ {s t : State} {code reading : ℕ} {bit : Bool} (reached : Reached s) (call : Called s code reading bit t) where
+  call-gives : Gives s (step (s .image) (s .tag) code reading) (meaningOf code reading)
+  call-gives = step-gives (reached-sound reached) code reading
+
+  call-taken : {e : Event} → meaningOf code reading ≡ Meaning.taken e → (bit ≡ lineBit s e) × (t ≡ after s e)
+  unfolding Gives after
+  call-taken {e} m =
+      let given = subst (Gives s (step (s .image) (s .tag) code reading)) m call-gives in
+      let seen = called-step call in
+      (seen .0 ∙ ap (λ (o : Outcome). o .answered .line) given, seen .1 ∙ ap leaves given)
+
+  call-refused : meaningOf code reading ≡ Meaning.refused → (bit ≡ true) × (t ≡ s)
+  unfolding Gives
+  call-refused m =
+      let given = subst (Gives s (step (s .image) (s .tag) code reading)) m call-gives in
+      let seen = called-step call in
+      (seen .0 ∙ given .0, seen .1 ∙ given .1)
+
+  call-again : Reached t
+  call-again = by (meaningOf code reading) refl
+    where
+      by : (m : Meaning) → meaningOf code reading ≡ m → Reached t
+      by (Meaning.taken e) m = subst Reached (sym (call-taken m .1)) (reached-after reached e)
+      by Meaning.refused m = subst Reached (sym (call-refused m .1)) reached
+
+-- ---- all together
+
+made-reached : {s : State} → Made s → Reached s
+made-reached (Made.made κs image number code r exit p zero) =
+    subst Reached (λ i. record { image = sym (p .1) i; tag = sym (p .0) i .tag })
+    (Reached.new (now image) number code (ap (λ (a : Answered). a .answer) (sym (p .0)) ∙ accepted-is (r .answer) zero))
+
+chain-run : {s t : State} {events : List Event} {bits : List Bool} → Reached s → Chain s events bits t →
+    run s events ≡ record { line = bits; state = t }
+unfolding run
+chain-run reached Chain.none = refl
+chain-run {s} reached (Chain.taken {es = es} code reading m call rest) =
+    let given = call-taken reached call m in
+    let after = ap (λ (u : State). run u es) (sym (given .1)) ∙ chain-run (call-again reached call) rest in
+    λ i. record { line = sym (given .0) i ∷ after i .line; state = after i .state }
+chain-run {s} reached (Chain.refused {es = es} code reading m call rest) =
+    ap (λ (u : State). run u es) (sym (call-refused reached call m .1)) ∙ chain-run (call-again reached call) rest
+
+reset-reached : {s : State} → JustReset s → Reached s
+reset-reached r = subst Reached (sym (r .reset)) (reached-after (r .reached) Event.reset)
+
+pub calls : Calls
+calls =
+    record {
+      made = made-reached;
+      again = call-again;
+      refused = λ reached m call. call-refused reached call m;
+      taken = chain-run;
+      listing = λ {s} {end} {e} {events} {bits} lent reached starts spares chain.
+          let settings = settingsOf (after s e .image) in
+          subst
+          (λ (u : State). Lists settings (History.history settings (missionTicks (after s e) events)) (u .tag .code) (dumpOf (u .image) (u .tag .code)) lent)
+          (ap (λ (r : Ran). r .state) (chain-run (reached-after reached e) chain))
+          (demand2 e events lent reached starts spares);
+      line = λ {s} {t} {u} {v} {E} {F} {seen} {other} premises first second.
+          sym (ap (λ (r : Ran). r .line) (chain-run (reset-reached (premises .begins .reset-s)) first))
+          ∙ demand3 s t E F premises .line
+          ∙ ap (λ (r : Ran). r .line) (chain-run (reset-reached (premises .begins .reset-t)) second);
+    }
