@@ -11,7 +11,9 @@ use lib.ListN.{length, getD}
 use Rattle.answer.specs.declared.Answer.the-variants.{Accepted, Places}
 use Rattle.dock.specs.Entries.{temperatureOf, secondsOf, periodOf}
 use Rattle.dock.specs.Listing.{refused, listingOf, temperaturesOf, secondsAt}
+use Rattle.dock.specs.Listing.Laws.{length-places}
 use Rattle.dump.specs.Dump.{dumpOf}
+use Rattle.image.specs.Fields.{flagAt}
 use Rattle.image.specs.Registers
 use Rattle.mission.specs.Mission
 use Rattle.tag.specs.Tag.{goodCode}
@@ -59,13 +61,14 @@ pub record Lists (s : Settings) (entries : List Conversion) (code : ℕ) (dump :
         ehss = s .ehss;
         suta = s .suta;
       }
-  -- "Seconds from the stamp: period × k, with SUTA period × (k − 1)"
+  -- "Seconds from the stamp"
   pub seconds : heldOf s entries ≤ length lent → (i : ℕ)
-      → secondsAt (listingOf dump (length lent)) i ≡ secondsOf (History.period s) (s .suta) (numberOf s entries i)
-  -- "Temperature .. reading − 656 (L), reading − 16 (T)", of the reading as the format keeps it, oldest first
+      → secondsAt (listingOf dump (length lent)) i ≡ History.seconds s (numberOf s entries i)
+  -- the temperature of the reading as the format keeps it, oldest first
   pub temperatures : heldOf s entries ≤ length lent → (i : ℕ) → i < heldOf s entries
-      → getD (temperaturesOf dump lent) i (pos 0) ≡ temperatureOf code (History.kept s (getD entries (numberOf s entries i) none .reading))
-  -- "Places past the entries stay as they were"
+      → getD (temperaturesOf dump lent) i (pos 0) ≡ History.temperature code (History.kept s (getD entries (numberOf s entries i) none .reading))
+  -- as many places come back as were lent, and "places past the entries stay as they were"
+  pub places : length (temperaturesOf dump lent) ≡ length lent
   pub past : heldOf s entries ≤ length lent → (i : ℕ) → heldOf s entries ≤ i
       → getD (temperaturesOf dump lent) i (pos 0) ≡ getD lent i (pos 0)
   -- 12: "fewer places lent for temperatures than entries held"
@@ -75,12 +78,13 @@ pub record Lists (s : Settings) (entries : List Conversion) (code : ℕ) (dump :
 lists : {start image : List ℕ} {es : List Conversion} → Listed start es image → (code : ℕ) → length es ≤ History.most (settingsOf start)
     → goodCode code ≡ true → (Registers.rate start ≡ 0 → ⊥) → Registers.etl start ≡ true → (lent : List ℤ)
     → Lists (settingsOf start) es code (dumpOf image code) lent
-unfolding settingsOf History.places Mission.places secondsAt periodOf History.period
-lists p code most good rated logging lent =
+unfolding settingsOf flagAt History.places Mission.places secondsAt secondsOf periodOf History.period History.seconds temperatureOf History.temperature
+lists {image = image} p code most good rated logging lent =
     record {
       listing = listing-read p code most good rated logging lent;
       seconds = λ enough i. ap (λ l. secondsAt l i) (listing-read p code most good rated logging lent enough);
       temperatures = temperature-read p code most good rated logging lent;
+      places = length-places (dumpOf image code) lent;
       past = past-read p code most good rated logging lent;
       few = few-read p code most good rated logging lent;
     }

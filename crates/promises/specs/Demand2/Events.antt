@@ -2,15 +2,15 @@
 use mathlib.Core.Path.{_≡_}
 use mathlib.Core.Bool.{Bool, true, false}
 use mathlib.Core.List.{List, [], _∷_}
-use mathlib.Core.Logic.{_⊎_}
+use mathlib.Core.Logic.{_≢_, _⊎_}
 use Prim.Native.Nat.{ℕ, _≤_, _<_}
 use Rattle.bits.specs.Choose.{if_then_else_}
 use Rattle.exchange.specs.declared.Slotted.{Slotted}
 use Rattle.exchange.specs.Exchange as exchange
 use Rattle.image.specs.Registers
 use Rattle.memory.specs.declared.Deed.{Deed}
-use Rattle.mission.specs.Mission
 use Rattle.tag.specs.Tag.{answerTo}
+use Rattle.promises.specs.Demand2.AtStart.{bitAt, rateAt}
 use Rattle.promises.specs.Runs.{State, Event, after}
 use Rattle.promises.specs.Runs.Laws.{Valid}
 
@@ -28,10 +28,13 @@ deedAt s (Event.tick reading) = Deed.Nothing
 
 -- ---- Start
 
--- "Start (MEMCLR 1, no mission, ETL 1, rate not 0)" is done in this slot
+-- "Start (MEMCLR 1, no mission, ETL 1, rate not 0)" comes in this slot, to an image with "0215h MIP 1, MEMCLR 3" and "0213h ETL 0" so
 pub record Starts (s : State) (e : Event) : Type 0 where
   pub command : deedAt s e ≡ Deed.Start
-  pub may : Mission.mayStart (s .image) ≡ true
+  pub memclr : bitAt (s .image) 0x0215 3 ≡ true
+  pub mip : bitAt (s .image) 0x0215 1 ≡ false
+  pub etl : bitAt (s .image) 0x0213 0 ≡ true
+  pub rate : rateAt (s .image) ≢ 0
 
 -- ---- "with no register written and no Clear done"
 
