@@ -37,6 +37,7 @@ pub mod Deeds
 pub mod Course
 pub mod Dumped
 pub mod Listing
+pub mod Met
 
 -- "Held: the last min(n, places)"
 abbrev pub heldOf : Settings → List Conversion → ℕ

@@ -36,7 +36,7 @@ use Rattle.mission.specs.declared.Counters.{Counters}
 use Rattle.tag.specs.Tag.{performed, performedCounters, newImage, slotted, resetTag, tickTag}
 use Rattle.tag.specs.Tag.Laws.{new-good, new-made, length-new}
 use Rattle.promises.specs.Demand2.Deeds.{whole-stored, holds-performed, Stopped, stopped-stop, stopped-ticked, stopped-performed}
-use Rattle.promises.specs.Demand2.Events.{slotAt, deedAt, Starts, Spares, isStop, missionTicks}
+use Rattle.promises.specs.Demand2.Events.{slotAt, deedAt, MayStart, Starts, Spares, isStop, missionTicks}
 use Rattle.promises.specs.Demand2.Holds.{Listed, Holds}
 use Rattle.promises.specs.Demand2.AtStart.{settingsOf, rate-of}
 use Rattle.promises.specs.Demand2.Ticks.{holds-ticked}
@@ -175,11 +175,11 @@ holds-started {image} w b m c =
 pub etl-started : (image : List ℕ) → Mission.mayStart image ≡ true → Registers.etl (Mission.started image) ≡ true
 etl-started image m = settings-started image .etl ∙ may-start image m .etl
 
--- the four facts of the registers are all that it asks for
-pub starts-may : {s : State} {e : Event} → Starts s e → Mission.mayStart (s .image) ≡ true
+-- document 01's four facts are all that it asks for
+four-facts : {image : List ℕ} → MayStart image → Mission.mayStart image ≡ true
 unfolding Mission.mayStart flagAt
-starts-may {s} starts =
-    rw (starts .memclr, starts .mip, starts .etl, ne-eqb (Registers.rate (s .image)) 0 (λ none. starts .rate (rate-of (s .image) ∙ none)))
+four-facts {image} may =
+    rw (may .memclr, may .mip, may .etl, ne-eqb (Registers.rate image) 0 (λ none. may .rate (rate-of image ∙ none)))
 
 -- the state that such a slot gives
 pub record Started (s : State) : Type 0 where
@@ -193,8 +193,8 @@ starts-after {s} (Event.slot bit) solid starts =
     record {
       solid = solid-after solid (Event.slot bit) tt;
       holds = rw (slot-leaves solid bit, starts .command)
-          (holds-started (solid .whole) (solid .fresh) (starts-may starts) (s .tag .counters));
-      etl = rw (slot-leaves solid bit, starts .command) (etl-started (s .image) (starts-may starts));
+          (holds-started (solid .whole) (solid .fresh) (four-facts (starts .may)) (s .tag .counters));
+      etl = rw (slot-leaves solid bit, starts .command) (etl-started (s .image) (four-facts (starts .may)));
     }
 starts-after Event.reset solid starts = let command = starts .command in absurd (let no : _≡_ {A = ℕ} 0 1 = cc in omega arith)
 starts-after (Event.tick reading) solid starts = let command = starts .command in absurd (let no : _≡_ {A = ℕ} 0 1 = cc in omega arith)

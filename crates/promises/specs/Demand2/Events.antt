@@ -28,13 +28,17 @@ deedAt s (Event.tick reading) = Deed.Nothing
 
 -- ---- Start
 
--- "Start (MEMCLR 1, no mission, ETL 1, rate not 0)" comes in this slot, to an image with "0215h MIP 1, MEMCLR 3" and "0213h ETL 0" so
+-- "Start (MEMCLR 1, no mission, ETL 1, rate not 0)", where "0213h ETL 0 .. 0215h MIP 1, MEMCLR 3" are bits
+pub record MayStart (image : List ℕ) : Type 0 where
+  pub memclr : bitAt image 0x0215 3 ≡ true
+  pub mip : bitAt image 0x0215 1 ≡ false
+  pub etl : bitAt image 0x0213 0 ≡ true
+  pub rate : rateAt image ≢ 0
+
+-- it comes in this slot, and is done
 pub record Starts (s : State) (e : Event) : Type 0 where
   pub command : deedAt s e ≡ Deed.Start
-  pub memclr : bitAt (s .image) 0x0215 3 ≡ true
-  pub mip : bitAt (s .image) 0x0215 1 ≡ false
-  pub etl : bitAt (s .image) 0x0213 0 ≡ true
-  pub rate : rateAt (s .image) ≢ 0
+  pub may : MayStart (s .image)
 
 -- ---- "with no register written and no Clear done"
 
