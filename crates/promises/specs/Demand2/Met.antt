@@ -1,6 +1,6 @@
--- Demand 2 says something: its premises can be met. Two statements: a Start whose slots come over the line is one as `Starts` says it,
--- and one mission, from a new tag on, is listed in these numbers. `start-met` and `mission-met` in Met/Proof.antt prove them.
--- Assumes nothing.
+-- Demand 2 says something: its premises can be met. Two statements: a Start whose slots come over the line is one as `Starts` says it
+-- (`start-met` in Met/Start.antt proves it), and one mission, from a new tag on, is listed in numbers (`mission-met` in
+-- Met/Mission.antt). Assumes nothing.
 use mathlib.Core.Path.{_≡_}
 use mathlib.Core.Bool.{Bool, true}
 use mathlib.Core.List.{List, [], _∷_, _++_, map}
@@ -17,11 +17,15 @@ use Rattle.memory.specs.declared.Control.{Control}
 use Rattle.tag.specs.Tag.{newTag}
 use Rattle.promises.specs.Demand2.AtStart.{byteAt}
 use Rattle.promises.specs.Demand2.Events.{MayStart, Starts}
+use Rattle.promises.specs.Demand3.Needed.Owner.{skipping}
 use Rattle.promises.specs.Line.Controlling.{controlSlots}
 use Rattle.promises.specs.Line.Slots.{session}
 use Rattle.promises.specs.Line.Storing.{writeSlots, copySlots}
 use Rattle.promises.specs.Runs.{State, Event, leaves, run, Reached}
 pub mod Start
+pub mod Page
+pub mod Ticks
+pub mod Mission
 
 -- ---- a Start over the line
 
@@ -57,11 +61,8 @@ page =
 abbrev pub readings : List ℕ
 readings = replicate 60 900 ++ (671 ∷ 900 ∷ 672 ∷ 900 ∷ 687 ∷ 900 ∷ 7 ∷ 900 ∷ [])
 
--- a reset, Skip, and a command's slots
-abbrev pub skipping : List Bool → List Event
-skipping bits = Event.reset ∷ map Event.slot (bitsOf 8 0xCC ++ bits)
-
--- the owner of a new tag, which checks no password, writes the registers and copies them, clears and starts; then come the ticks
+-- the owner of a new tag, which checks no password, writes the registers and copies them, clears and starts, each after a reset and
+-- Skip; then come the ticks
 abbrev pub life : List Event
 life =
     skipping (writeSlots 0x0200 page)
@@ -70,20 +71,20 @@ life =
     ++ (skipping (controlSlots Control.Start 0 0xFF)
     ++ map Event.tick readings)))
 
--- the end of the life of an L with the ROM 41 2B C5 FB 00 00 00 A1, whatever the lent image held, and its dump
-abbrev pub ended : List ℕ → State
-ended image = run (leaves (newTag image 0xA1000000FBC52B41 0x40)) life .state
+-- a new tag at the end of it, and its dump
+abbrev pub ended : State → State
+ended new = run new life .state
 
-abbrev pub dumped : List ℕ → List ℕ
-dumped image = dumpOf (ended image .image) (ended image .tag .code)
+abbrev pub dumped : State → List ℕ
+dumped new = dumpOf (ended new .image) (ended new .tag .code)
 
 -- four places are lent, with 9 in each
 abbrev pub lent : List ℤ
 lent = replicate 4 (pos 9)
 
-pub record MissionMet (image : List ℕ) : Type 0 where
+pub record ListedSo (new : State) : Type 0 where
   -- three entries, and the stamp of entry 1: 00:00:00, 1 January 00, with CENT flipped
-  pub listing : listingOf (dumped image) 4
+  pub listing : listingOf (dumped new) 4
       ≡ record {
         answer = Accepted;
         code = 0x40;
@@ -94,6 +95,10 @@ pub record MissionMet (image : List ℕ) : Type 0 where
         ehss = true;
         suta = true;
       }
-  pub seconds : map (secondsAt (listingOf (dumped image) 4)) (0 ∷ 1 ∷ 2 ∷ []) ≡ negsuc 1 ∷ pos 0 ∷ pos 2 ∷ []
+  pub seconds : map (secondsAt (listingOf (dumped new) 4)) (0 ∷ 1 ∷ 2 ∷ []) ≡ negsuc 1 ∷ pos 0 ∷ pos 2 ∷ []
   -- 672, 680 and 0 are what the format keeps of the readings
-  pub temperatures : temperaturesOf (dumped image) lent ≡ pos 16 ∷ pos 24 ∷ negsuc 655 ∷ pos 9 ∷ []
+  pub temperatures : temperaturesOf (dumped new) lent ≡ pos 16 ∷ pos 24 ∷ negsuc 655 ∷ pos 9 ∷ []
+
+-- of an L with the ROM 41 2B C5 FB 00 00 00 A1, whatever the lent image held
+abbrev pub MissionMet : Type 0
+MissionMet = (image : List ℕ) → length image ≡ 8832 → ListedSo (leaves (newTag image 0xA1000000FBC52B41 0x40))

@@ -1,7 +1,7 @@
 -- The slots of a Start come to a tag that may start: in the last of them the deed is Start, over the image as it was. Assumes nothing.
-use mathlib.Core.Path.{_≡_, refl, sym, ap, _∙_}
+use mathlib.Core.Path.{_≡_, refl}
 use mathlib.Core.Bool.{Bool, true}
-use mathlib.Core.List.{List, [], _∷_, _++_, append-assoc}
+use mathlib.Core.List.{List, [], _∷_, _++_}
 use Prim.Native.Nat.{ℕ, _^_, _<_}
 use borrow.Author.Tests.{eq-eqb, eqb-true}
 use lib.Dec.{eqb}
@@ -20,12 +20,11 @@ use Rattle.memory.specs.Bus.{goTo}
 use Rattle.memory.specs.Field.{guarded}
 use Rattle.tag.specs.Tag.{answerTo, slotted, performed, performedCounters}
 use Rattle.promises.specs.Demand2.AtStart.{byteAt}
-use Rattle.promises.specs.Demand2.Events.{slotAt, deedAt, MayStart, Starts}
+use Rattle.promises.specs.Demand2.Events.{slotAt, deedAt}
 use Rattle.promises.specs.Demand2.Met.{startSlots, Right, StartMet}
-use Rattle.promises.specs.Line.Controlling.{controlSlots}
 use Rattle.promises.specs.Line.ControlRun.{controlByte, controlBus, control-head, control-done}
 use Rattle.promises.specs.Line.Slots.{slots, withExchange, answersOf, Ends, ends-lastly, numberOf, session, session-then}
-use Rattle.promises.specs.Runs.{State, Event, Ran, run, Reached}
+use Rattle.promises.specs.Runs.{State, Event, run}
 use Rattle.promises.specs.Runs.Laws.{Sound, reached-sound}
 
 -- slots that do nothing but with the last one: before it the image is as it was, and it does this
@@ -51,11 +50,6 @@ right-may image field right =
 ones : bitsOf 8 0xFF ≡ released 7 ++ (true ∷ [])
 unfolding bitsOf bitOf
 ones = refl
-
--- the slots of a Start are these and a 1
-pub all-but-last : (field : ℕ) → controlSlots Control.Start field 0xFF ≡ startSlots field ++ (true ∷ [])
-unfolding controlByte
-all-but-last field = rw ones (sym (append-assoc (bitsOf 8 0xCC ++ bitsOf 64 field) (released 7) (true ∷ [])))
 
 module _ {s : State} (sound : Sound s) (way : Way) (field : ℕ) (fits : field < 2 ^ 64) (right : Right (s .image) field) where
   pub start-comes : let u = run s (session s way (startSlots field)) .state in

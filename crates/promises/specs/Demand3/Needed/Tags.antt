@@ -59,7 +59,7 @@ pad = replicate 32 0x00
 abbrev pub number : ℕ
 number = 0xA1000000FBC52B41
 
-number-good : goodNumber number ≡ true
+pub number-good : goodNumber number ≡ true
 unfolding goodNumber goodCrc taps crcBit crcBits mask8 crc8Of bitOf bitsOf xor
 number-good = refl
 
