@@ -1,7 +1,7 @@
 -- Demand 2 of the order, the listing: "From a dump of one moment, with no register written and no Clear done since the mission's
 -- start, the dock lists exactly that mission's readings that the log still holds, oldest first, to the format's resolution." What a
 -- mission's readings are is said in `History`, from the settings at Start and the ticks' readings alone; which events are spoken of
--- in `Demand2.Events`. Assumes nothing.
+-- in `Demand2.Events`; that there are such, with one mission's listing in numbers, in `Demand2.Met`. Assumes nothing.
 use mathlib.Core.Path.{_≡_, ap}
 use mathlib.Core.Bool.{true}
 use mathlib.Core.List.{List, []}

@@ -88,10 +88,6 @@ module _ (image : List ℕ) where
   unfolding History.isTime isTime
   isTime-of t = rw (← period-of, delay-of)
 
-  pub places-of : History.places (settingsOf image) ≡ Mission.places image
-  unfolding settingsOf flagAt History.places Mission.places
-  places-of = refl
-
   pub most-of : History.most (settingsOf image)
       ≡ (let countable = 0xFFFFFF + digit (Registers.suta image) in
       if Registers.ro image then countable else min (Mission.places image) countable)

@@ -4,7 +4,7 @@ use mathlib.Core.Bool.{true}
 use mathlib.Core.List.{List, [], _∷_, _++_, map}
 use Prim.Native.Nat.{ℕ, zero, suc, _<_, _≤_}
 use native.Mathlib.Omega.{arith}
-use lib.IntN.{pos, negsuc}
+use lib.IntN.{ℤ, pos, negsuc}
 use lib.ListN.{length, getD}
 use lib.Seq.{ext-getD}
 use Rattle.bits.specs.Bits.{bitOf, bitsOf}
@@ -118,7 +118,10 @@ enough : heldOf settings entries ≤ length lent
 unfolding History.places
 enough = omega arith
 
-place-at : (i : ℕ) → i < 4 → getD (temperaturesOf (dumped made) lent) i (pos 0) ≡ getD (pos 16 ∷ pos 24 ∷ negsuc 655 ∷ pos 9 ∷ []) i (pos 0)
+abbrev shown : List ℤ
+shown = pos 16 ∷ pos 24 ∷ negsuc 655 ∷ pos 9 ∷ []
+
+place-at : (i : ℕ) → i < 4 → getD (temperaturesOf (dumped made) lent) i (pos 0) ≡ getD shown i (pos 0)
 unfolding History.places History.kept History.temperature
 place-at zero h = listed .temperatures enough 0 (omega arith)
 place-at (suc zero) h = listed .temperatures enough 1 (omega arith)
@@ -132,7 +135,7 @@ listed-made =
     record {
       listing = listed .listing enough ∙ rw stamp-is;
       seconds = rw (listed .seconds enough 0, listed .seconds enough 1, listed .seconds enough 2);
-      temperatures = ext-getD (pos 0) (temperaturesOf (dumped made) lent) (pos 16 ∷ pos 24 ∷ negsuc 655 ∷ pos 9 ∷ []) (listed .places)
+      temperatures = ext-getD (pos 0) (temperaturesOf (dumped made) lent) shown (listed .places)
           (λ i h. place-at i (rw (listed .places) at h));
     }
 

@@ -82,6 +82,7 @@ clean-open =
 
 -- ---- the Start
 
+-- what these two touch: runs of bytes, and bits
 abbrev changed : List Run
 changed = (0x0219, 6) ∷ (0x0220, 3) ∷ []
 
