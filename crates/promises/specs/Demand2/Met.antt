@@ -1,5 +1,5 @@
 -- Demand 2 says something: its premises can be met. Two statements: a Start whose slots come over the line is one as `Starts` says it
--- (`start-met` in Met/Start.antt proves it), and one mission, from a new tag on, is listed in numbers (`mission-met` in
+-- (`start-met` in Met/Start.antt proves it), and one mission, from a new tag on, is listed in numbers (`mission-listed` in
 -- Met/Mission.antt). Assumes nothing.
 use mathlib.Core.Path.{_≡_}
 use mathlib.Core.Bool.{Bool, true}
@@ -100,5 +100,5 @@ pub record ListedSo (new : State) : Type 0 where
   pub temperatures : temperaturesOf (dumped new) lent ≡ pos 16 ∷ pos 24 ∷ negsuc 655 ∷ pos 9 ∷ []
 
 -- of an L with the ROM 41 2B C5 FB 00 00 00 A1, whatever the lent image held
-abbrev pub MissionMet : Type 0
-MissionMet = (image : List ℕ) → length image ≡ 8832 → ListedSo (leaves (newTag image 0xA1000000FBC52B41 0x40))
+abbrev pub MissionListed : Type 0
+MissionListed = (image : List ℕ) → length image ≡ 8832 → ListedSo (leaves (newTag image 0xA1000000FBC52B41 0x40))

@@ -21,7 +21,7 @@ use Rattle.promises.specs.Demand2.{Lists, heldOf, demand2}
 use Rattle.promises.specs.Demand2.AtStart.{settingsOf}
 use Rattle.promises.specs.Demand2.Course.{reached-solid}
 use Rattle.promises.specs.Demand2.Events.{slotAt, deedAt, Starts}
-use Rattle.promises.specs.Demand2.Met.{startSlots, page, readings, life, ended, dumped, lent, ListedSo, MissionMet}
+use Rattle.promises.specs.Demand2.Met.{startSlots, page, readings, life, ended, dumped, lent, ListedSo, MissionListed}
 use Rattle.promises.specs.Demand2.Met.Page.{written, written-off, clean, clean-may, clean-open, begun, settings, settings-begun}
 use Rattle.promises.specs.Demand2.Met.Start.{start-comes}
 use Rattle.promises.specs.Demand2.Met.Ticks.{ticks-spare, ticks-all, entries, history-is, stamp-is}
@@ -140,9 +140,9 @@ listed-made =
     }
 
 -- a new tag is the same over every image
-pub mission-met : MissionMet
+pub mission-listed : MissionListed
 unfolding goodCode
-mission-met image long =
+mission-listed image long =
     let same : newTag fresh number 0x40 ≡ newTag image number 0x40 =
     new-made fresh number 0x40 (length-new 8832) number-good refl ∙ sym (new-made image number 0x40 long number-good refl) in
     subst (λ (o : Outcome). ListedSo (leaves o)) same listed-made
