@@ -90,19 +90,20 @@ lists {image = image} p code most good rated logging lent =
       few = few-read p code most good rated logging lent;
     }
 
--- e is the slot in which Start was done; then come these events; and at their end the dump is taken
+-- e is the slot in which Start was done, over the settings that it found; then come these events; and at their end the dump is taken
 pub demand2 : {s : State} (e : Event) (events : List Event) (lent : List ℤ) → Reached s → Starts s e → Always Spares (after s e) events
     → let start = after s e in
     let end = run start events .state in
-    Lists (settingsOf (start .image)) (History.history (settingsOf (start .image)) (missionTicks start events)) (end .tag .code)
-    (dumpOf (end .image) (end .tag .code)) lent
+    let settings = settingsOf (s .image) in
+    Lists settings (History.history settings (missionTicks start events)) (end .tag .code) (dumpOf (end .image) (end .tag .code)) lent
 demand2 {s} e events lent reached starts always =
     let start = after s e in
     let began = starts-after e (reached-solid reached) starts in
     let sound = solid-run events (began .solid) always .sound in
-    lists (listed-run {readings = []} events (began .solid) (began .holds) always) (run start events .state .tag .code)
+    rw (began .settings) at
+    (lists (listed-run {readings = []} events (began .solid) (began .holds) always) (run start events .state .tag .code)
     (history-le (settingsOf (start .image)) (missionTicks start events))
     (ranges-of (run start events .state .tag) (sound .ranges) .code)
     (began .holds .running .time .rated)
     (began .etl)
-    lent
+    lent)

@@ -1,4 +1,4 @@
--- The settings of a mission, by the bytes and bits of the image that Start leaves. Assumes nothing.
+-- The settings of a mission, by the bytes and bits of the image that Start finds. Assumes nothing.
 use mathlib.Core.Path.{_≡_, refl}
 use mathlib.Core.Bool.{Bool}
 use mathlib.Core.List.{List}
@@ -14,6 +14,7 @@ use Rattle.image.specs.Registers
 use Rattle.image.specs.Tables.{registerAt, named}
 use Rattle.mission.specs.Clock.{clockOf}
 use Rattle.mission.specs.Mission
+use Rattle.mission.specs.Mission.Frames.{leaves-started}
 use Rattle.mission.specs.Mission.Times.{isTime}
 use Rattle.promises.specs.Demand2.Counts.{places-apart}
 use Rattle.promises.specs.History
@@ -101,6 +102,31 @@ module _ (image : List ℕ) where
   pub kept-of : (reading : ℕ) → History.kept (settingsOf image) reading ≡ Mission.resolved image reading
   unfolding settingsOf flagAt History.kept Mission.resolved
   kept-of reading = choices (λ (n m : ℕ). n ≡ m) (Registers.tlfs image) refl (omega arith)
+
+  -- a Start leaves them as it finds them
+  pub settings-found : settingsOf (Mission.started image) ≡ settingsOf image
+  unfolding settingsOf clockAt flagAt
+  settings-found =
+      let left = leaves-started image in
+      let same = left .keeps .bytes in
+      rw (
+        left .bits 0x0212 1 tt tt tt,
+        same 0x0200 tt,
+        same 0x0201 tt,
+        same 0x0202 tt,
+        same 0x0203 tt,
+        same 0x0204 tt,
+        same 0x0205 tt,
+        same 0x0206 tt,
+        same 0x0207 tt,
+        same 0x0208 tt,
+        same 0x0209 tt,
+        same 0x0210 tt,
+        same 0x0213 tt,
+        same 0x0216 tt,
+        same 0x0217 tt,
+        same 0x0218 tt,
+      )
 
   pub places-pos : 0 < Mission.places image
   unfolding Mission.places

@@ -38,7 +38,7 @@ use Rattle.tag.specs.Tag.Laws.{new-good, new-made, length-new}
 use Rattle.promises.specs.Demand2.Deeds.{whole-stored, holds-performed, Stopped, stopped-stop, stopped-ticked, stopped-performed}
 use Rattle.promises.specs.Demand2.Events.{slotAt, deedAt, MayStart, Starts, Spares, isStop, missionTicks}
 use Rattle.promises.specs.Demand2.Holds.{Listed, Holds}
-use Rattle.promises.specs.Demand2.AtStart.{settingsOf, rate-of}
+use Rattle.promises.specs.Demand2.AtStart.{settingsOf, rate-of, settings-found}
 use Rattle.promises.specs.Demand2.Ticks.{holds-ticked}
 use Rattle.promises.specs.History
 use Rattle.promises.specs.History.{Settings, Conversion}
@@ -182,16 +182,18 @@ four-facts {image} may =
     rw (may .memclr, may .mip, may .etl, ne-eqb (Registers.rate image) 0 (λ none. may .rate (rate-of image ∙ none)))
 
 -- the state that such a slot gives
-pub record Started (s : State) : Type 0 where
+pub record Started (before : List ℕ) (s : State) : Type 0 where
   pub solid : Solid s
+  pub settings : settingsOf (s .image) ≡ settingsOf before
   pub holds : Holds (s .image) [] (s .image) (s .tag .counters)
   pub etl : Registers.etl (s .image) ≡ true
 
-pub starts-after : {s : State} (e : Event) → Solid s → Starts s e → Started (after s e)
+pub starts-after : {s : State} (e : Event) → Solid s → Starts s e → Started (s .image) (after s e)
 unfolding deedAt performed performedCounters
 starts-after {s} (Event.slot bit) solid starts =
     record {
       solid = solid-after solid (Event.slot bit) tt;
+      settings = rw (slot-leaves solid bit, starts .command) (settings-found (s .image));
       holds = rw (slot-leaves solid bit, starts .command)
           (holds-started (solid .whole) (solid .fresh) (four-facts (starts .may)) (s .tag .counters));
       etl = rw (slot-leaves solid bit, starts .command) (etl-started (s .image) (four-facts (starts .may)));

@@ -13,16 +13,15 @@ use Rattle.dock.specs.Listing.{temperaturesOf}
 use Rattle.exchange.specs.Runs.{Way, waySlots}
 use Rattle.memory.specs.declared.Control.{Control}
 use Rattle.memory.specs.declared.Deed.{Deed}
-use Rattle.mission.specs.Mission.{started}
 use Rattle.mission.specs.Mission.Whole.{Whole}
-use Rattle.tag.specs.Tag.{Outcome, goodCode, newTag, slotted, performed}
+use Rattle.tag.specs.Tag.{Outcome, goodCode, newTag}
 use Rattle.tag.specs.Tag.Laws.{new-made, length-new}
 use Rattle.promises.specs.Demand2.{Lists, heldOf, demand2}
 use Rattle.promises.specs.Demand2.AtStart.{settingsOf}
 use Rattle.promises.specs.Demand2.Course.{reached-solid}
-use Rattle.promises.specs.Demand2.Events.{slotAt, deedAt, Starts}
+use Rattle.promises.specs.Demand2.Events.{deedAt, Starts}
 use Rattle.promises.specs.Demand2.Met.{startSlots, page, readings, life, ended, dumped, lent, ListedSo, MissionListed}
-use Rattle.promises.specs.Demand2.Met.Page.{written, written-off, clean, clean-may, clean-open, begun, settings, settings-begun}
+use Rattle.promises.specs.Demand2.Met.Page.{written, written-off, clean, clean-may, clean-open, settings, settings-clean}
 use Rattle.promises.specs.Demand2.Met.Start.{start-comes}
 use Rattle.promises.specs.Demand2.Met.Ticks.{ticks-spare, ticks-all, entries, history-is, stamp-is}
 use Rattle.promises.specs.Demand3.Needed.Owner.{skipping, Owned, told, told-owned, stored, stored-owned, clearedBy, cleared-owned}
@@ -32,7 +31,7 @@ use Rattle.promises.specs.Line.Controlling.{controlSlots}
 use Rattle.promises.specs.Line.ControlRun.{controlByte}
 use Rattle.promises.specs.Line.Storing.{writeSlots, copySlots}
 use Rattle.promises.specs.Runs.{State, Event, leaves, after, Ran, run}
-use Rattle.promises.specs.Runs.Laws.{reached-sound, slot-happens, run-append, code-run}
+use Rattle.promises.specs.Runs.Laws.{reached-sound, run-append, code-run}
 
 -- ---- the owner's commands
 
@@ -71,10 +70,6 @@ asked-starts =
 abbrev start : State
 start = after asked (Event.slot true)
 
-start-image : start .image ≡ begun
-unfolding after slotted slotAt deedAt performed
-start-image = rw (slot-happens (reached-sound (asked-owned .reached)) true, start-asked .1) (ap started (asked-owned .holds))
-
 abbrev end : State
 end = run start (map Event.tick readings) .state
 
@@ -110,7 +105,7 @@ listed : Lists settings entries 0x40 (dumped made) lent
 listed =
     let all = demand2 (Event.slot true) (map Event.tick readings) lent (asked-owned .reached) asked-starts (ticks-spare start readings tt) in
     subst (λ (code : ℕ). Lists settings entries code (dumped made) lent) ended-code
-    (rw (ap settingsOf start-image ∙ settings-begun, ticks-all start readings, history-is, ← ended-state) at all)
+    (rw (ap settingsOf (asked-owned .holds) ∙ settings-clean, ticks-all start readings, history-is, ← ended-state) at all)
 
 -- ---- its listing
 
