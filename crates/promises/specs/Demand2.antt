@@ -15,6 +15,7 @@ use Rattle.dock.specs.Listing.Laws.{length-places}
 use Rattle.dump.specs.Dump.{dumpOf}
 use Rattle.image.specs.Fields.{flagAt}
 use Rattle.image.specs.Registers
+use Rattle.conversion.specs.Conversion as conversion
 use Rattle.mission.specs.Mission
 use Rattle.tag.specs.Tag.{goodCode}
 use Rattle.tag.specs.Tag.Laws.{ranges-of}
@@ -79,7 +80,7 @@ pub record Lists (s : Settings) (entries : List Conversion) (code : ℕ) (dump :
 lists : {start image : List ℕ} {es : List Conversion} → Listed start es image → (code : ℕ) → length es ≤ History.most (settingsOf start)
     → goodCode code ≡ true → (Registers.rate start ≡ 0 → ⊥) → Registers.etl start ≡ true → (lent : List ℤ)
     → Lists (settingsOf start) es code (dumpOf image code) lent
-unfolding settingsOf flagAt History.places Mission.places secondsAt secondsOf periodOf History.period History.seconds temperatureOf History.temperature
+unfolding settingsOf flagAt History.places conversion.places secondsAt secondsOf periodOf History.period History.seconds temperatureOf History.temperature
 lists {image = image} p code most good rated logging lent =
     record {
       listing = listing-read p code most good rated logging lent;

@@ -10,11 +10,12 @@ use Rattle.calendar.specs.Calendar.{nextSecond, nextDay, carried, stepHours, st
 use Rattle.calendar.specs.declared.Clock.{Clock}
 use Rattle.crc.specs.Crc.{taps, crcBit, crcBits, mask8, crc8Of}
 use Rattle.dock.specs.Entries.{temperatureOf}
-use Rattle.memory.specs.declared.Hearing.{Hearing}
-use Rattle.memory.specs.declared.Stage.{Stage}
+use Rattle.bus.specs.declared.Hearing.{Hearing}
+use Rattle.bus.specs.declared.Stage.{Stage}
 use Rattle.memory.specs.Hear.{loaded, afterData}
 use Rattle.memory.specs.Memory.{newHeld}
-use Rattle.mission.specs.Mission.{isHigh, isLow, periodOf}
+use Rattle.conversion.specs.Conversion.{isHigh, isLow}
+use Rattle.mission.specs.Mission.{periodOf}
 
 -- ---- how a point is written
 

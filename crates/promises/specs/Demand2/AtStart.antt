@@ -12,7 +12,8 @@ use Rattle.calendar.specs.declared.Clock.{Clock}
 use Rattle.image.specs.Fields.{wordAt, flagAt}
 use Rattle.image.specs.Registers
 use Rattle.image.specs.Tables.{registerAt, named}
-use Rattle.mission.specs.Clock.{clockOf}
+use Rattle.conversion.specs.Clock.{clockOf}
+use Rattle.conversion.specs.Conversion as conversion
 use Rattle.mission.specs.Mission
 use Rattle.mission.specs.Mission.Frames.{leaves-started}
 use Rattle.mission.specs.Mission.Times.{isTime}
@@ -91,16 +92,16 @@ module _ (image : List ℕ) where
 
   pub most-of : History.most (settingsOf image)
       ≡ (let countable = 0xFFFFFF + digit (Registers.suta image) in
-      if Registers.ro image then countable else min (Mission.places image) countable)
-  unfolding settingsOf flagAt History.most History.places Mission.places
+      if Registers.ro image then countable else min (conversion.places image) countable)
+  unfolding settingsOf flagAt History.most History.places conversion.places
   most-of = refl
 
-  pub alarms-of : (reading : ℕ) → History.alarms (settingsOf image) reading ≡ Mission.alarms image reading
-  unfolding settingsOf flagAt History.alarms Mission.alarms Mission.alarmsHigh Mission.alarmsLow Mission.isHigh Mission.isLow
+  pub alarms-of : (reading : ℕ) → History.alarms (settingsOf image) reading ≡ conversion.alarms image reading
+  unfolding settingsOf flagAt History.alarms conversion.alarms conversion.alarmsHigh conversion.alarmsLow conversion.isHigh conversion.isLow
   alarms-of reading = refl
 
-  pub kept-of : (reading : ℕ) → History.kept (settingsOf image) reading ≡ Mission.resolved image reading
-  unfolding settingsOf flagAt History.kept Mission.resolved
+  pub kept-of : (reading : ℕ) → History.kept (settingsOf image) reading ≡ conversion.resolved image reading
+  unfolding settingsOf flagAt History.kept conversion.resolved
   kept-of reading = choices (λ (n m : ℕ). n ≡ m) (Registers.tlfs image) refl (omega arith)
 
   -- a Start leaves them as it finds them
@@ -128,15 +129,15 @@ module _ (image : List ℕ) where
         same 0x0218 tt,
       )
 
-  pub places-pos : 0 < Mission.places image
-  unfolding Mission.places
+  pub places-pos : 0 < conversion.places image
+  unfolding conversion.places
   places-pos = choice (λ (n : ℕ). 0 < n) (Registers.tlfs image) (omega arith) (omega arith)
 
-  pub places-le : Mission.places image ≤ 8192
-  unfolding Mission.places
+  pub places-le : conversion.places image ≤ 8192
+  unfolding conversion.places
   places-le = choice (λ (n : ℕ). n ≤ 8192) (Registers.tlfs image) (omega arith) (omega arith)
 
   -- two entries that are less than the log apart lie at different places
-  pub place-apart : (k n : ℕ) → k < n → n < k + Mission.places image → k % Mission.places image ≡ n % Mission.places image → ⊥
-  unfolding Mission.places
+  pub place-apart : (k n : ℕ) → k < n → n < k + conversion.places image → k % conversion.places image ≡ n % conversion.places image → ⊥
+  unfolding conversion.places
   place-apart k n lo = places-apart (Registers.tlfs image) k n lo

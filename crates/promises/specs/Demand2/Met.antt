@@ -13,7 +13,7 @@ use Rattle.dock.specs.Listing.{listingOf, temperaturesOf, secondsAt}
 use Rattle.dump.specs.Dump.{dumpOf}
 use Rattle.exchange.specs.Runs.{Way}
 use Rattle.image.specs.Fields.{wordAt}
-use Rattle.memory.specs.declared.Control.{Control}
+use Rattle.bus.specs.declared.Control.{Control}
 use Rattle.tag.specs.Tag.{newTag}
 use Rattle.promises.specs.Demand2.AtStart.{byteAt}
 use Rattle.promises.specs.Demand2.Events.{MayStart, Starts}

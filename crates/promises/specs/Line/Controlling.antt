@@ -12,13 +12,13 @@ use Rattle.exchange.specs.Runs.Laws.{quiet-then}
 use Rattle.image.specs.Answers.{checked, mayControl}
 use Rattle.image.specs.Answers.Laws.{control-refused}
 use Rattle.image.specs.Registers.{fullPassword}
-use Rattle.memory.specs.declared.Control.{Control}
-use Rattle.memory.specs.declared.Deed.{Deed}
-use Rattle.memory.specs.declared.Hearing.{Hearing}
-use Rattle.memory.specs.declared.Question.{Question}
-use Rattle.memory.specs.declared.Stage.{Stage}
-use Rattle.memory.specs.Bus.{goTo}
-use Rattle.memory.specs.Field.{guarded}
+use Rattle.bus.specs.declared.Control.{Control}
+use Rattle.bus.specs.declared.Deed.{Deed}
+use Rattle.bus.specs.declared.Hearing.{Hearing}
+use Rattle.bus.specs.declared.Question.{Question}
+use Rattle.bus.specs.declared.Stage.{Stage}
+use Rattle.bus.specs.Bus.{goTo}
+use Rattle.field.specs.Field.{guarded}
 use Rattle.memory.specs.Hear.{deedOf}
 use Rattle.mission.specs.Mission.{cleared, started, startedCounters, stopped, forced}
 use Rattle.tag.specs.Tag.{answerTo, performed, performedCounters}

@@ -11,9 +11,9 @@ use Rattle.bits.specs.Bits.{bitOf, bitsOf}
 use Rattle.bits.specs.Bytes.{bytes-of}
 use Rattle.dock.specs.Listing.{temperaturesOf}
 use Rattle.exchange.specs.Runs.{Way, waySlots}
-use Rattle.memory.specs.declared.Control.{Control}
-use Rattle.memory.specs.declared.Deed.{Deed}
-use Rattle.mission.specs.Mission.Whole.{Whole}
+use Rattle.bus.specs.declared.Control.{Control}
+use Rattle.bus.specs.declared.Deed.{Deed}
+use Rattle.conversion.specs.Conversion.Whole.{Whole}
 use Rattle.tag.specs.Tag.{Outcome, goodCode, newTag}
 use Rattle.tag.specs.Tag.Laws.{new-made, length-new}
 use Rattle.promises.specs.Demand2.{Lists, heldOf, demand2}

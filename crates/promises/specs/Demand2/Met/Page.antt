@@ -22,7 +22,7 @@ use Rattle.image.specs.Tables.{writable}
 use Rattle.mission.specs.Mission.{cleared}
 use Rattle.mission.specs.Mission.Commands.{clears}
 use Rattle.mission.specs.Mission.Frames.{leaves-cleared, mip-cleared}
-use Rattle.mission.specs.Mission.Whole.{Whole}
+use Rattle.conversion.specs.Conversion.Whole.{Whole}
 use Rattle.tag.specs.Tag.Laws.{length-new}
 use Rattle.promises.specs.Demand2.AtStart.{byteAt, clockAt, settingsOf}
 use Rattle.promises.specs.Demand2.Events.{MayStart}

@@ -11,13 +11,13 @@ use Rattle.exchange.specs.Exchange.{slotOf, asks}
 use Rattle.exchange.specs.Runs as exchange
 use Rattle.exchange.specs.Runs.{Way, wayMark, commanding}
 use Rattle.image.specs.Answers.{checked, mayControl}
-use Rattle.memory.specs.declared.Control.{Control}
-use Rattle.memory.specs.declared.Deed.{Deed}
-use Rattle.memory.specs.declared.Hearing.{Hearing}
-use Rattle.memory.specs.declared.Question.{Question}
-use Rattle.memory.specs.declared.Stage.{Stage}
-use Rattle.memory.specs.Bus.{goTo}
-use Rattle.memory.specs.Field.{guarded}
+use Rattle.bus.specs.declared.Control.{Control}
+use Rattle.bus.specs.declared.Deed.{Deed}
+use Rattle.bus.specs.declared.Hearing.{Hearing}
+use Rattle.bus.specs.declared.Question.{Question}
+use Rattle.bus.specs.declared.Stage.{Stage}
+use Rattle.bus.specs.Bus.{goTo}
+use Rattle.field.specs.Field.{guarded}
 use Rattle.tag.specs.Tag.{answerTo, slotted, performed, performedCounters}
 use Rattle.promises.specs.Demand2.AtStart.{byteAt}
 use Rattle.promises.specs.Demand2.Events.{slotAt, deedAt}
