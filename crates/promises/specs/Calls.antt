@@ -73,7 +73,7 @@ pub record Calls : Type 2 where
   -- demand 2, of the calls after the slot in which Start was done
   pub listing : {s end : State} {e : Event} {events : List Event} {bits : List Bool} (lent : List ℤ) → Reached s → Starts s e →
       Always Spares (after s e) events → Chain (after s e) events bits end →
-      let settings = settingsOf (after s e .image) in
+      let settings = settingsOf (s .image) in
       Lists settings (History.history settings (missionTicks (after s e) events)) (end .tag .code)
       (dumpOf (end .image) (end .tag .code)) lent
   -- demand 3, of the calls of two tags

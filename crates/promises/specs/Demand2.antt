@@ -1,7 +1,7 @@
 -- Demand 2 of the order, the listing: "From a dump of one moment, with no register written and no Clear done since the mission's
 -- start, the dock lists exactly that mission's readings that the log still holds, oldest first, to the format's resolution." What a
 -- mission's readings are is said in `History`, from the settings at Start and the ticks' readings alone; which events are spoken of
--- in `Demand2.Events`. Assumes nothing.
+-- in `Demand2.Events`; that there are such, with one mission's listing in numbers, in `Demand2.Met`. Assumes nothing.
 use mathlib.Core.Path.{_≡_, ap}
 use mathlib.Core.Bool.{true}
 use mathlib.Core.List.{List, []}
@@ -11,7 +11,9 @@ use lib.ListN.{length, getD}
 use Rattle.answer.specs.declared.Answer.the-variants.{Accepted, Places}
 use Rattle.dock.specs.Entries.{temperatureOf, secondsOf, periodOf}
 use Rattle.dock.specs.Listing.{refused, listingOf, temperaturesOf, secondsAt}
+use Rattle.dock.specs.Listing.Laws.{length-places}
 use Rattle.dump.specs.Dump.{dumpOf}
+use Rattle.image.specs.Fields.{flagAt}
 use Rattle.image.specs.Registers
 use Rattle.conversion.specs.Conversion as conversion
 use Rattle.mission.specs.Mission
@@ -36,6 +38,7 @@ pub mod Deeds
 pub mod Course
 pub mod Dumped
 pub mod Listing
+pub mod Met
 
 -- "Held: the last min(n, places)"
 abbrev pub heldOf : Settings → List Conversion → ℕ
@@ -60,13 +63,14 @@ pub record Lists (s : Settings) (entries : List Conversion) (code : ℕ) (dump :
         ehss = s .ehss;
         suta = s .suta;
       }
-  -- "Seconds from the stamp: period × k, with SUTA period × (k − 1)"
+  -- "Seconds from the stamp"
   pub seconds : heldOf s entries ≤ length lent → (i : ℕ)
-      → secondsAt (listingOf dump (length lent)) i ≡ secondsOf (History.period s) (s .suta) (numberOf s entries i)
-  -- "Temperature .. reading − 656 (L), reading − 16 (T)", of the reading as the format keeps it, oldest first
+      → secondsAt (listingOf dump (length lent)) i ≡ History.seconds s (numberOf s entries i)
+  -- the temperature of the reading as the format keeps it, oldest first
   pub temperatures : heldOf s entries ≤ length lent → (i : ℕ) → i < heldOf s entries
-      → getD (temperaturesOf dump lent) i (pos 0) ≡ temperatureOf code (History.kept s (getD entries (numberOf s entries i) none .reading))
-  -- "Places past the entries stay as they were"
+      → getD (temperaturesOf dump lent) i (pos 0) ≡ History.temperature code (History.kept s (getD entries (numberOf s entries i) none .reading))
+  -- as many places come back as were lent, and "places past the entries stay as they were"
+  pub places : length (temperaturesOf dump lent) ≡ length lent
   pub past : heldOf s entries ≤ length lent → (i : ℕ) → heldOf s entries ≤ i
       → getD (temperaturesOf dump lent) i (pos 0) ≡ getD lent i (pos 0)
   -- 12: "fewer places lent for temperatures than entries held"
@@ -76,29 +80,31 @@ pub record Lists (s : Settings) (entries : List Conversion) (code : ℕ) (dump :
 lists : {start image : List ℕ} {es : List Conversion} → Listed start es image → (code : ℕ) → length es ≤ History.most (settingsOf start)
     → goodCode code ≡ true → (Registers.rate start ≡ 0 → ⊥) → Registers.etl start ≡ true → (lent : List ℤ)
     → Lists (settingsOf start) es code (dumpOf image code) lent
-unfolding settingsOf History.places conversion.places secondsAt periodOf History.period
-lists p code most good rated logging lent =
+unfolding settingsOf flagAt History.places conversion.places secondsAt secondsOf periodOf History.period History.seconds temperatureOf History.temperature
+lists {image = image} p code most good rated logging lent =
     record {
       listing = listing-read p code most good rated logging lent;
       seconds = λ enough i. ap (λ l. secondsAt l i) (listing-read p code most good rated logging lent enough);
       temperatures = temperature-read p code most good rated logging lent;
+      places = length-places (dumpOf image code) lent;
       past = past-read p code most good rated logging lent;
       few = few-read p code most good rated logging lent;
     }
 
--- e is the slot in which Start was done; then come these events; and at their end the dump is taken
+-- e is the slot in which Start was done, over the settings that it found; then come these events; and at their end the dump is taken
 pub demand2 : {s : State} (e : Event) (events : List Event) (lent : List ℤ) → Reached s → Starts s e → Always Spares (after s e) events
     → let start = after s e in
     let end = run start events .state in
-    Lists (settingsOf (start .image)) (History.history (settingsOf (start .image)) (missionTicks start events)) (end .tag .code)
-    (dumpOf (end .image) (end .tag .code)) lent
+    let settings = settingsOf (s .image) in
+    Lists settings (History.history settings (missionTicks start events)) (end .tag .code) (dumpOf (end .image) (end .tag .code)) lent
 demand2 {s} e events lent reached starts always =
     let start = after s e in
     let began = starts-after e (reached-solid reached) starts in
     let sound = solid-run events (began .solid) .sound in
-    lists (listed-run {readings = []} events (began .solid) (began .holds) always) (run start events .state .tag .code)
+    rw (began .settings) at
+    (lists (listed-run {readings = []} events (began .solid) (began .holds) always) (run start events .state .tag .code)
     (history-le (settingsOf (start .image)) (missionTicks start events))
     (ranges-of (run start events .state .tag) (sound .ranges) .code)
     (began .holds .running .time .rated)
     (began .etl)
-    lent
+    lent)

@@ -4,6 +4,7 @@ use mathlib.Core.Bool.{Bool, _&&_, _||_}
 use mathlib.Core.List.{List, [], _∷_}
 use Prim.Native.Nat.{ℕ, suc, _+_, _-_, _*_, _/_, _%_, min}
 use lib.Dec.{eqb, leb, ltb}
+use lib.IntN.{ℤ, pos, _-ℤ_, _*ℤ_}
 use lib.ListN.{take, drop}
 use Rattle.bits.specs.Bits.{digit}
 use Rattle.bits.specs.Choose.{if_then_else_}
@@ -96,3 +97,13 @@ stamp s entries = clockAt s (drop (digit (s .suta)) entries)
 -- "to the format's resolution": of an 8-bit entry "a reading of 8 times the byte"
 unfoldable pub kept : Settings → ℕ → ℕ
 kept s reading = if s .tlfs then reading else 8 * (reading / 8)
+
+-- ---- what a listing says of an entry
+
+-- "Seconds from the stamp: period × k, with SUTA period × (k − 1)"
+unfoldable pub seconds : Settings → ℕ → ℤ
+seconds s k = if s .suta then (pos (period s) *ℤ (pos k -ℤ pos 1)) else (pos (period s) *ℤ pos k)
+
+-- "Temperature in sixteenths of a degree, signed: reading − 656 (L), reading − 16 (T)". L is the code 40h, T is 60h
+unfoldable pub temperature : ℕ → ℕ → ℤ
+temperature code reading = if eqb code 0x40 then (pos reading -ℤ pos 656) else (pos reading -ℤ pos 16)

@@ -119,7 +119,7 @@ calls =
       refused = λ reached m call. call-refused reached call m;
       taken = chain-run;
       listing = λ {s} {end} {e} {events} {bits} lent reached starts spares chain.
-          let settings = settingsOf (after s e .image) in
+          let settings = settingsOf (s .image) in
           subst
           (λ (u : State). Lists settings (History.history settings (missionTicks (after s e) events)) (u .tag .code) (dumpOf (u .image) (u .tag .code)) lent)
           (ap (λ (r : Ran). r .state) (chain-run (reached-after reached e) chain))

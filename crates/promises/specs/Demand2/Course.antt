@@ -8,7 +8,7 @@ use Prim.Native.Nat.{ℕ, _≤_, _<_}
 use native.Mathlib.Nat.{zero-sub, not-suc-le-zero}
 use native.Mathlib.Decide.{decLt}
 use native.Mathlib.Omega.{arith}
-use borrow.Author.Tests.{leb-true, leb-false}
+use borrow.Author.Tests.{leb-true, leb-false, ne-eqb}
 use lib.Dec.{leb}
 use lib.ListN.{take, replicate}
 use lib.Seq.{take-nil, drop-nil, append-snoc, getD-set-other}
@@ -38,9 +38,9 @@ use Rattle.mission.specs.declared.Counters.{Counters}
 use Rattle.tag.specs.Tag.{performed, performedCounters, newImage, slotted, resetTag, tickTag}
 use Rattle.tag.specs.Tag.Laws.{new-good, new-made, length-new}
 use Rattle.promises.specs.Demand2.Deeds.{whole-stored, holds-performed, Stopped, stopped-stop, stopped-ticked, stopped-performed}
-use Rattle.promises.specs.Demand2.Events.{slotAt, deedAt, Starts, Spares, isStop, missionTicks}
+use Rattle.promises.specs.Demand2.Events.{slotAt, deedAt, MayStart, Starts, Spares, isStop, missionTicks}
 use Rattle.promises.specs.Demand2.Holds.{Listed, Holds}
-use Rattle.promises.specs.Demand2.AtStart.{settingsOf}
+use Rattle.promises.specs.Demand2.AtStart.{settingsOf, rate-of, settings-found}
 use Rattle.promises.specs.Demand2.Ticks.{holds-ticked}
 use Rattle.promises.specs.History
 use Rattle.promises.specs.History.{Settings, Conversion}
@@ -180,20 +180,28 @@ holds-started {image} w b m c =
 pub etl-started : (image : List ℕ) → Mission.mayStart image ≡ true → Registers.etl (Mission.started image) ≡ true
 etl-started image m = settings-started image .etl ∙ may-start image m .etl
 
+-- document 01's four facts are all that it asks for
+four-facts : {image : List ℕ} → MayStart image → Mission.mayStart image ≡ true
+unfolding Mission.mayStart flagAt
+four-facts {image} may =
+    rw (may .memclr, may .mip, may .etl, ne-eqb (Registers.rate image) 0 (λ none. may .rate (rate-of image ∙ none)))
+
 -- the state that such a slot gives
-pub record Started (s : State) : Type 0 where
+pub record Started (before : List ℕ) (s : State) : Type 0 where
   pub solid : Solid s
+  pub settings : settingsOf (s .image) ≡ settingsOf before
   pub holds : Holds (s .image) [] (s .image) (s .tag .counters)
   pub etl : Registers.etl (s .image) ≡ true
 
-pub starts-after : {s : State} (e : Event) → Solid s → Starts s e → Started (after s e)
+pub starts-after : {s : State} (e : Event) → Solid s → Starts s e → Started (s .image) (after s e)
 unfolding deedAt performed performedCounters
 starts-after {s} (Event.slot bit) solid starts =
     record {
       solid = solid-after solid (Event.slot bit);
+      settings = rw (slot-leaves solid bit, starts .command) (settings-found (s .image));
       holds = rw (slot-leaves solid bit, starts .command)
-          (holds-started (solid .whole) (solid .fresh) (starts .may) (s .tag .counters));
-      etl = rw (slot-leaves solid bit, starts .command) (etl-started (s .image) (starts .may));
+          (holds-started (solid .whole) (solid .fresh) (four-facts (starts .may)) (s .tag .counters));
+      etl = rw (slot-leaves solid bit, starts .command) (etl-started (s .image) (four-facts (starts .may)));
     }
 starts-after Event.reset solid starts = let command = starts .command in absurd (let no : _≡_ {A = ℕ} 0 1 = cc in omega arith)
 starts-after (Event.tick reading) solid starts = let command = starts .command in absurd (let no : _≡_ {A = ℕ} 0 1 = cc in omega arith)

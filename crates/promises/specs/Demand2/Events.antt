@@ -2,7 +2,7 @@
 use mathlib.Core.Path.{_≡_}
 use mathlib.Core.Bool.{Bool, true, false}
 use mathlib.Core.List.{List, [], _∷_}
-use mathlib.Core.Logic.{_⊎_}
+use mathlib.Core.Logic.{_≢_, _⊎_}
 use Prim.Native.Nat.{ℕ, _≤_, _<_}
 use lib.Dec.{leb}
 use Rattle.bits.specs.Choose.{if_then_else_}
@@ -10,8 +10,8 @@ use Rattle.exchange.specs.declared.Slotted.{Slotted}
 use Rattle.exchange.specs.Exchange as exchange
 use Rattle.image.specs.Registers
 use Rattle.bus.specs.declared.Deed.{Deed}
-use Rattle.mission.specs.Mission
 use Rattle.tag.specs.Tag.{answerTo}
+use Rattle.promises.specs.Demand2.AtStart.{bitAt, rateAt}
 use Rattle.promises.specs.Runs.{State, Event, after}
 
 -- a slot, answered by the image
@@ -28,10 +28,17 @@ deedAt s (Event.tick reading) = Deed.Nothing
 
 -- ---- Start
 
--- "Start (MEMCLR 1, no mission, ETL 1, rate not 0)" is done in this slot
+-- "Start (MEMCLR 1, no mission, ETL 1, rate not 0)", where "0213h ETL 0 .. 0215h MIP 1, MEMCLR 3" are bits
+pub record MayStart (image : List ℕ) : Type 0 where
+  pub memclr : bitAt image 0x0215 3 ≡ true
+  pub mip : bitAt image 0x0215 1 ≡ false
+  pub etl : bitAt image 0x0213 0 ≡ true
+  pub rate : rateAt image ≢ 0
+
+-- it comes in this slot, and is done
 pub record Starts (s : State) (e : Event) : Type 0 where
   pub command : deedAt s e ≡ Deed.Start
-  pub may : Mission.mayStart (s .image) ≡ true
+  pub may : MayStart (s .image)
 
 -- ---- "with no register written and no Clear done"
 

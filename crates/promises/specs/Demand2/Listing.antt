@@ -17,6 +17,7 @@ use Rattle.dock.specs.Listing.Laws.{can-be}
 use Rattle.dock.specs.Listing.Memory.{memory-listing, memory-temperature, memory-past, memory-few, memory-untouched}
 use Rattle.dock.specs.Registers as Dock
 use Rattle.dump.specs.Dump.{dumpOf, dump-accepted}
+use Rattle.image.specs.Fields.{flagAt}
 use Rattle.image.specs.Registers
 use Rattle.image.specs.Sent.{sentAt}
 use Rattle.image.specs.Sent.Laws.{sent-code}
@@ -26,7 +27,7 @@ use Rattle.conversion.specs.Conversion.Settings.{places-same}
 use Rattle.tag.specs.Tag.{goodCode}
 use Rattle.promises.specs.Demand2.Dumped.{sixBytes, ehss-sent, etl-sent, ro-sent, suta-sent, tlf-sent, thf-sent, memclr-sent, places-sent, reading-sent, samples-sent, stamp-sent, rate-sent, dump-agrees}
 use Rattle.promises.specs.Demand2.Holds.{none, Listed}
-use Rattle.promises.specs.Demand2.AtStart.{settingsOf, places-of, places-pos}
+use Rattle.promises.specs.Demand2.AtStart.{settingsOf, rate-of, most-of, places-pos}
 use Rattle.promises.specs.History
 use Rattle.promises.specs.History.{Conversion}
 use Rattle.promises.specs.History.Laws.{isNone, none-length}
@@ -85,14 +86,14 @@ module _ {start : List ℕ} {es : List Conversion} {image : List ℕ} (p : Liste
   module _ (most : length es ≤ History.most (settingsOf start)) (good : goodCode code ≡ true) (rated : Registers.rate start ≡ 0 → ⊥)
       (logging : Registers.etl start ≡ true) where
     can : cannotBe (sentAt image code) ≡ false
-    unfolding isKnown isOverfull isUnflagged goodCode History.most settingsOf
+    unfolding isKnown isOverfull isUnflagged goodCode
     can =
         can-be (sentAt image code)
         (rw (sent-code image code) good)
         (λ e. rated (sym (rate-sent image code (p .whole) ∙ p .settings .rate) ∙ e))
         (etl-sent image code ∙ p .settings .etl ∙ logging)
         (rw (ro-sent image code ∙ p .settings .ro, places-read, entries-read)
-        (full-count (Registers.ro start) (Registers.suta start) (conversion.places start) (length es) (rw (places-of start) at most)))
+        (full-count (Registers.ro start) (Registers.suta start) (conversion.places start) (length es) (rw (most-of start) at most)))
         (rw suta-read
         (flag-count (Registers.suta start) (Entries.isFlagged (sentAt image code)) (isNone es) (length es) (Dock.missionSamples (sentAt image code))
         flagged-read
@@ -122,11 +123,11 @@ module _ {start : List ℕ} {es : List Conversion} {image : List ℕ} (p : Liste
             held = min (length es) (conversion.places start);
             first = length es - min (length es) (conversion.places start);
             stamp = sixBytes (History.stamp (settingsOf start) es);
-            rate = Registers.rate start;
-            ehss = Registers.ehss start;
-            suta = Registers.suta start;
+            rate = settingsOf start .rate;
+            ehss = settingsOf start .ehss;
+            suta = settingsOf start .suta;
           }
-      unfolding listed
+      unfolding listed settingsOf flagAt
       listing-read =
           memory-listing (dumpOf image code) (sentAt image code) (dump-accepted image code (p .whole .bytes) small) (dump-agrees image code (p .whole) small)
           (memclr-sent image code ∙ p .memclr)
@@ -139,7 +140,7 @@ module _ {start : List ℕ} {es : List Conversion} {image : List ℕ} (p : Liste
             first-read,
             stamp-sent image code (p .whole),
             p .stamp,
-            rate-sent image code (p .whole) ∙ p .settings .rate,
+            rate-sent image code (p .whole) ∙ p .settings .rate ∙ sym (rate-of start),
             ehss-sent image code ∙ p .settings .ehss,
             suta-read,
           )

@@ -30,7 +30,7 @@ use Rattle.mission.specs.Mission.Whole.{whole-ticked}
 use Rattle.mission.specs.declared.Counters.{Counters}
 use Rattle.promises.specs.Demand2.Counts.{next-count, count-more, first-count, end-count, flags-more, flags-same, unlogged-waits, unlogged-quiet, waits-no-more, waits-on}
 use Rattle.promises.specs.Demand2.Holds.{none, Listed, Running, Holds, listed-left}
-use Rattle.promises.specs.Demand2.AtStart.{settingsOf, places-of, alarms-of, kept-of, places-pos, places-le, place-apart, isTime-of}
+use Rattle.promises.specs.Demand2.AtStart.{settingsOf, suta-of, clock-of, isTime-of, most-of, alarms-of, kept-of, places-pos, places-le, place-apart}
 use Rattle.promises.specs.History
 use Rattle.promises.specs.History.{Conversion}
 use Rattle.promises.specs.History.Laws.{isNone, logs, adds, added, history-more, history-le, stamp-more, none-length, none-more}
@@ -48,10 +48,10 @@ module _ {start image : List ℕ} {es : List Conversion} {t : ℕ} {c : Counters
       (next-count (Registers.suta start) (isNone es) (length es) (Registers.missionSamples image) (sym (none-length es)) (p .samples))
 
   ended-of : length es ≤ History.most (settingsOf start) → conversion.ended image ≡ leb (History.most (settingsOf start)) (length es)
-  unfolding conversion.ended History.most settingsOf
+  unfolding conversion.ended
   ended-of le =
-      rw (nextEntry-of, places-same (p .settings), p .settings .ro, places-of start)
-      (end-count (Registers.ro start) (Registers.suta start) (conversion.places start) (length es) (Registers.missionSamples image) (places-le start) (p .samples) (rw (places-of start) at le))
+      rw (nextEntry-of, places-same (p .settings), p .settings .ro, most-of start)
+      (end-count (Registers.ro start) (Registers.suta start) (conversion.places start) (length es) (Registers.missionSamples image) (places-le start) (p .samples) (rw (most-of start) at le))
 
   -- ---- the clock
 
@@ -109,8 +109,8 @@ module _ {start image : List ℕ} {es : List Conversion} {t : ℕ} {c : Counters
     -- ---- a conversion that is made
 
     logs-of : Conversions.logs image reading ≡ logs (settingsOf start) es reading
-    unfolding Conversions.logs logs settingsOf
-    logs-of = rw (q .waiting, alarms-same (p .settings) reading, alarms-of start reading)
+    unfolding Conversions.logs logs
+    logs-of = rw (q .waiting, alarms-same (p .settings) reading, alarms-of start reading, suta-of start)
 
     module _ (small : reading ≤ 2047) (due : Mission.due image c ≡ true) (going : conversion.ended image ≡ false) where
       made : Converts image (if Registers.eosc image then nextSecond (clockOf image) else clockOf image) reading (Mission.ticked image c reading)
@@ -184,7 +184,7 @@ module _ {start image : List ℕ} {es : List Conversion} {t : ℕ} {c : Counters
                 (p .entries k before (omega arith))
 
         listed-logged : Listed start (es ++ next ∷ []) (Mission.ticked image c reading)
-        unfolding settingsOf Conversions.logs conversion.alarms
+        unfolding Conversions.logs conversion.alarms
         listed-logged =
             record {
               whole = whole-ticked c reading (p .whole);
@@ -198,7 +198,7 @@ module _ {start image : List ℕ} {es : List Conversion} {t : ℕ} {c : Counters
                   (p .flags s)
                   (rw (q .waiting, s) at (logs-of ∙ e)));
               stamp = made .log .stamp
-                  ∙ rw (q .waiting, second-later, p .stamp, stamp-more (settingsOf start) es next)
+                  ∙ rw (q .waiting, second-later, p .stamp, stamp-more (settingsOf start) es next, suta-of start, clock-of start)
                   (first-count (Registers.suta start) (isNone es) (length es) (Registers.missionSamples image) _ _ (sym (none-length es)) (p .samples));
               entries = entry-at;
             }

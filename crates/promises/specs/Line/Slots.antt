@@ -76,7 +76,7 @@ ends-quiet [] = refl
 ends-quiet (bit ∷ []) = refl
 ends-quiet (bit ∷ b ∷ bs) = (refl, ends-quiet (b ∷ bs))
 
-ends-lastly : (n : ℕ) (deed : Deed) → Ends deed (replicate n Deed.Nothing ++ (deed ∷ []))
+pub ends-lastly : (n : ℕ) (deed : Deed) → Ends deed (replicate n Deed.Nothing ++ (deed ∷ []))
 unfolding Ends
 ends-lastly zero deed = refl
 ends-lastly (suc zero) deed = (refl, refl)

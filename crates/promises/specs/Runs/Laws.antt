@@ -179,6 +179,21 @@ unfolding run
 number-run [] sound = refl
 number-run (e ∷ es) sound = number-run es (sound-after e sound) ∙ number-after e sound
 
+-- nor the code
+
+pub code-after : {s : State} (e : Event) → Sound s → after s e .tag .code ≡ s .tag .code
+unfolding after slotted resetTag tickTag
+code-after (Event.slot bit) sound = rw (slot-happens sound bit)
+code-after Event.reset sound = rw (reset-happens sound)
+code-after (Event.tick reading) sound =
+    dite (decLe reading 2047) (λ small. rw (tick-happens sound reading small))
+    (λ high. rw (tick-refused sound reading (omega arith)))
+
+pub code-run : {s : State} (es : List Event) → Sound s → run s es .state .tag .code ≡ s .tag .code
+unfolding run
+code-run [] sound = refl
+code-run (e ∷ es) sound = code-run es (sound-after e sound) ∙ code-after e sound
+
 -- ---- which events are accepted
 
 -- slots, resets, and ticks with a valid reading

@@ -37,7 +37,7 @@ use Rattle.promises.specs.Runs.Laws.{Sound, reached-run, reached-sound, 
 abbrev pub skipping : List Bool → List Event
 skipping bits = Event.reset ∷ map Event.slot (bitsOf 8 0xCC ++ bits)
 
-abbrev told : State → List Bool → State
+abbrev pub told : State → List Bool → State
 told s bits = run s (skipping bits) .state
 
 told-reached : {s : State} (bits : List Bool) → Reached s → Reached (told s bits)
@@ -62,7 +62,7 @@ pub record Owned (number : ℕ) (image : List ℕ) (s : State) : Type 0 where
   pub holds : s .image ≡ image
 
 -- after a command that leaves this image
-told-owned : {number : ℕ} {image new : List ℕ} {s : State} (bits : List Bool) → Owned number image s → told s bits .image ≡ new →
+pub told-owned : {number : ℕ} {image new : List ℕ} {s : State} (bits : List Bool) → Owned number image s → told s bits .image ≡ new →
     Owned number new (told s bits)
 told-owned bits o e =
     record {

@@ -1,0 +1,104 @@
+-- Demand 2 says something: its premises can be met. Two statements: a Start whose slots come over the line is one as `Starts` says it
+-- (`start-met` in Met/Start.antt proves it), and one mission, from a new tag on, is listed in numbers (`mission-listed` in
+-- Met/Mission.antt). Assumes nothing.
+use mathlib.Core.Path.{_≡_}
+use mathlib.Core.Bool.{Bool, true}
+use mathlib.Core.List.{List, [], _∷_, _++_, map}
+use Prim.Native.Nat.{ℕ, _^_, _<_}
+use lib.IntN.{ℤ, pos, negsuc}
+use lib.ListN.{length, replicate}
+use Rattle.answer.specs.declared.Answer.the-variants.{Accepted}
+use Rattle.bits.specs.Bits.{bitsOf, released}
+use Rattle.dock.specs.Listing.{listingOf, temperaturesOf, secondsAt}
+use Rattle.dump.specs.Dump.{dumpOf}
+use Rattle.exchange.specs.Runs.{Way}
+use Rattle.image.specs.Fields.{wordAt}
+use Rattle.bus.specs.declared.Control.{Control}
+use Rattle.tag.specs.Tag.{newTag}
+use Rattle.promises.specs.Demand2.AtStart.{byteAt}
+use Rattle.promises.specs.Demand2.Events.{MayStart, Starts}
+use Rattle.promises.specs.Demand3.Needed.Owner.{skipping}
+use Rattle.promises.specs.Line.Controlling.{controlSlots}
+use Rattle.promises.specs.Line.Slots.{session}
+use Rattle.promises.specs.Line.Storing.{writeSlots, copySlots}
+use Rattle.promises.specs.Runs.{State, Event, leaves, run, Reached}
+pub mod Start
+pub mod Page
+pub mod Ticks
+pub mod Mission
+
+-- ---- a Start over the line
+
+-- its slots but the last, which is a 1: CCh, eight password bytes, and seven bits of FFh
+abbrev pub startSlots : ℕ → List Bool
+startSlots field = (bitsOf 8 0xCC ++ bitsOf 64 field) ++ released 7
+
+-- "With 0227h equal to AAh passwords are checked, else any eight bytes pass": the full password stands from 0230h on
+abbrev pub Right : List ℕ → ℕ → Type 0
+Right image field = byteAt image 0x0227 ≡ 0xAA → field ≡ wordAt image 0x0230 8
+
+-- a reset, a way of choosing the tag, and the slots of a Start with a right password
+abbrev pub StartMet : Type 0
+StartMet = (s : State) (way : Way) (field : ℕ) → Reached s → field < 2 ^ 64 → Right (s .image) field → MayStart (s .image) →
+    Starts (run s (session s way (startSlots field)) .state) (Event.slot true)
+
+-- ---- one mission
+
+-- the registers from 0200h on: a high alarm at 54h starts it after a delay of a minute, with a conversion every 2 s
+abbrev pub page : List ℕ
+page =
+    0x55 ∷ 0x58 ∷ 0x23 ∷ 0x31 ∷ 0x12 ∷ 0x99 ∷  -- 0200h clock: 23:58:55, 31 December 99
+    0x02 ∷ 0x00 ∷  -- 0206h rate
+    0x00 ∷ 0x54 ∷  -- 0208h thresholds
+    0x00 ∷ 0x00 ∷ 0x00 ∷ 0x00 ∷ 0x00 ∷ 0x00 ∷
+    0x02 ∷ 0x00 ∷  -- 0210h ETHA
+    0x02 ∷ 0x21 ∷  -- 0212h EHSS; 0213h ETL and SUTA
+    0x00 ∷ 0x00 ∷
+    0x01 ∷ 0x00 ∷ 0x00 ∷  -- 0216h delay
+    replicate 7 0x00
+
+-- a minute of readings that would alarm; then a conversion every other second: one below the threshold, then three that are logged
+abbrev pub readings : List ℕ
+readings = replicate 60 900 ++ (671 ∷ 900 ∷ 672 ∷ 900 ∷ 687 ∷ 900 ∷ 7 ∷ 900 ∷ [])
+
+-- the owner of a new tag, which checks no password, writes the registers and copies them, clears and starts, each after a reset and
+-- Skip; then come the ticks
+abbrev pub life : List Event
+life =
+    skipping (writeSlots 0x0200 page)
+    ++ (skipping (copySlots 0x0200 0x1F 0 0)
+    ++ (skipping (controlSlots Control.Clear 0 0xFF)
+    ++ (skipping (controlSlots Control.Start 0 0xFF)
+    ++ map Event.tick readings)))
+
+-- a new tag at the end of it, and its dump
+abbrev pub ended : State → State
+ended new = run new life .state
+
+abbrev pub dumped : State → List ℕ
+dumped new = dumpOf (ended new .image) (ended new .tag .code)
+
+-- four places are lent, with 9 in each
+abbrev pub lent : List ℤ
+lent = replicate 4 (pos 9)
+
+pub record ListedSo (new : State) : Type 0 where
+  -- three entries, and the stamp of entry 1: 00:00:00, 1 January 00, with CENT flipped
+  pub listing : listingOf (dumped new) 4
+      ≡ record {
+        answer = Accepted;
+        code = 0x40;
+        held = 3;
+        first = 0;
+        stamp = 0x00 ∷ 0x00 ∷ 0x00 ∷ 0x01 ∷ 0x81 ∷ 0x00 ∷ [];
+        rate = 2;
+        ehss = true;
+        suta = true;
+      }
+  pub seconds : map (secondsAt (listingOf (dumped new) 4)) (0 ∷ 1 ∷ 2 ∷ []) ≡ negsuc 1 ∷ pos 0 ∷ pos 2 ∷ []
+  -- 672, 680 and 0 are what the format keeps of the readings
+  pub temperatures : temperaturesOf (dumped new) lent ≡ pos 16 ∷ pos 24 ∷ negsuc 655 ∷ pos 9 ∷ []
+
+-- of an L with the ROM 41 2B C5 FB 00 00 00 A1, whatever the lent image held
+abbrev pub MissionListed : Type 0
+MissionListed = (image : List ℕ) → length image ≡ 8832 → ListedSo (leaves (newTag image 0xA1000000FBC52B41 0x40))

@@ -1,0 +1,143 @@
+-- A mission from a new tag on: its owner's commands one by one, and then its listing by `demand2`. Assumes nothing.
+use mathlib.Core.Path.{_≡_, refl, sym, ap, subst, _∙_}
+use mathlib.Core.Bool.{true}
+use mathlib.Core.List.{List, [], _∷_, _++_, map}
+use Prim.Native.Nat.{ℕ, zero, suc, _<_, _≤_}
+use native.Mathlib.Omega.{arith}
+use lib.IntN.{ℤ, pos, negsuc}
+use lib.ListN.{length, getD}
+use lib.Seq.{ext-getD}
+use Rattle.bits.specs.Bits.{bitOf, bitsOf}
+use Rattle.bits.specs.Bytes.{bytes-of}
+use Rattle.dock.specs.Listing.{temperaturesOf}
+use Rattle.exchange.specs.Runs.{Way, waySlots}
+use Rattle.bus.specs.declared.Control.{Control}
+use Rattle.bus.specs.declared.Deed.{Deed}
+use Rattle.conversion.specs.Conversion.Whole.{Whole}
+use Rattle.tag.specs.Tag.{Outcome, goodCode, newTag}
+use Rattle.tag.specs.Tag.Laws.{new-made, length-new}
+use Rattle.promises.specs.Demand2.{Lists, heldOf, demand2}
+use Rattle.promises.specs.Demand2.AtStart.{settingsOf}
+use Rattle.promises.specs.Demand2.Course.{reached-solid}
+use Rattle.promises.specs.Demand2.Events.{deedAt, Starts}
+use Rattle.promises.specs.Demand2.Met.{startSlots, page, readings, life, ended, dumped, lent, ListedSo, MissionListed}
+use Rattle.promises.specs.Demand2.Met.Page.{written, written-off, clean, clean-may, clean-open, settings, settings-clean}
+use Rattle.promises.specs.Demand2.Met.Start.{start-comes}
+use Rattle.promises.specs.Demand2.Met.Ticks.{ticks-spare, ticks-all, entries, history-is, stamp-is}
+use Rattle.promises.specs.Demand3.Needed.Owner.{skipping, Owned, told, told-owned, stored, stored-owned, clearedBy, cleared-owned}
+use Rattle.promises.specs.Demand3.Needed.Tags.{number, number-good, fresh, fresh-off, fresh-idle, made, made-owned}
+use Rattle.promises.specs.History
+use Rattle.promises.specs.Line.Controlling.{controlSlots}
+use Rattle.promises.specs.Line.ControlRun.{controlByte}
+use Rattle.promises.specs.Line.Storing.{writeSlots, copySlots}
+use Rattle.promises.specs.Runs.{State, Event, leaves, after, Ran, run}
+use Rattle.promises.specs.Runs.Laws.{reached-sound, run-append, code-run}
+
+-- ---- the owner's commands
+
+abbrev registered : State
+registered = stored made 0x0200 page
+
+registered-owned : Owned number written registered
+registered-owned = stored-owned made-owned fresh-off 0x0200 page (omega arith) refl (bytes-of page tt) fresh-idle
+
+abbrev cleaned : State
+cleaned = clearedBy registered
+
+cleaned-owned : Owned number clean cleaned
+cleaned-owned = cleared-owned registered-owned written-off
+
+-- before the last slot of the Start
+abbrev asked : State
+asked = told cleaned (startSlots 0)
+
+start-asked : (asked .image ≡ cleaned .image) × (deedAt asked (Event.slot true) ≡ Deed.Start)
+unfolding waySlots
+start-asked =
+    start-comes (reached-sound (cleaned-owned .reached)) Way.skip 0 (omega arith)
+    (λ checked. absurd (let no : _≡_ {A = ℕ} 0x00 0xAA = sym (rw (cleaned-owned .holds) clean-open) ∙ checked in omega arith))
+
+asked-owned : Owned number clean asked
+asked-owned = told-owned (startSlots 0) cleaned-owned (start-asked .0 ∙ cleaned-owned .holds)
+
+asked-starts : Starts asked (Event.slot true)
+asked-starts =
+    let whole : Whole written = rw (registered-owned .holds) at (reached-solid (registered-owned .reached) .whole) in
+    record { command = start-asked .1; may = rw (asked-owned .holds) (clean-may whole) }
+
+-- ---- the mission
+
+abbrev start : State
+start = after asked (Event.slot true)
+
+abbrev end : State
+end = run start (map Event.tick readings) .state
+
+-- one run and then another
+run-then : (s : State) (es fs : List Event) → run s (es ++ fs) .state ≡ run (run s es .state) fs .state
+run-then s es fs = ap (λ (r : Ran). r .state) (run-append s es fs)
+
+-- the slots of a Start are all but its last, and a 1
+start-slots : skipping (controlSlots Control.Start 0 0xFF) ≡ skipping (startSlots 0) ++ (Event.slot true ∷ [])
+unfolding bitsOf bitOf controlByte
+start-slots = refl
+
+started-state : run cleaned (skipping (controlSlots Control.Start 0 0xFF)) .state ≡ start
+unfolding run
+started-state =
+    ap (λ (es : List Event). run cleaned es .state) start-slots ∙ run-then cleaned (skipping (startSlots 0)) (Event.slot true ∷ [])
+
+ended-state : ended made ≡ end
+ended-state =
+    run-then made (skipping (writeSlots 0x0200 page)) _
+    ∙ run-then (told made (writeSlots 0x0200 page)) (skipping (copySlots 0x0200 0x1F 0 0)) _
+    ∙ run-then registered (skipping (controlSlots Control.Clear 0 0xFF)) _
+    ∙ run-then cleaned (skipping (controlSlots Control.Start 0 0xFF)) _
+    ∙ ap (λ (s : State). run s (map Event.tick readings) .state) started-state
+
+ended-code : ended made .tag .code ≡ 0x40
+unfolding goodCode
+ended-code =
+    code-run life (reached-sound (made-owned .reached))
+    ∙ ap (λ (o : Outcome). o .answered .tag .code) (new-made fresh number 0x40 (length-new 8832) number-good refl)
+
+listed : Lists settings entries 0x40 (dumped made) lent
+listed =
+    let all = demand2 (Event.slot true) (map Event.tick readings) lent (asked-owned .reached) asked-starts (ticks-spare start readings) in
+    subst (λ (code : ℕ). Lists settings entries code (dumped made) lent) ended-code
+    (rw (ap settingsOf (asked-owned .holds) ∙ settings-clean, ticks-all start readings tt, history-is, ← ended-state) at all)
+
+-- ---- its listing
+
+enough : heldOf settings entries ≤ length lent
+unfolding History.places
+enough = omega arith
+
+abbrev shown : List ℤ
+shown = pos 16 ∷ pos 24 ∷ negsuc 655 ∷ pos 9 ∷ []
+
+place-at : (i : ℕ) → i < 4 → getD (temperaturesOf (dumped made) lent) i (pos 0) ≡ getD shown i (pos 0)
+unfolding History.places History.kept History.temperature
+place-at zero h = listed .temperatures enough 0 (omega arith)
+place-at (suc zero) h = listed .temperatures enough 1 (omega arith)
+place-at (suc (suc zero)) h = listed .temperatures enough 2 (omega arith)
+place-at (suc (suc (suc zero))) h = listed .past enough 3 (omega arith)
+place-at (suc (suc (suc (suc i)))) h = absurd (omega arith)
+
+listed-made : ListedSo made
+unfolding History.places History.period History.seconds
+listed-made =
+    record {
+      listing = listed .listing enough ∙ rw stamp-is;
+      seconds = rw (listed .seconds enough 0, listed .seconds enough 1, listed .seconds enough 2);
+      temperatures = ext-getD (pos 0) (temperaturesOf (dumped made) lent) shown (listed .places)
+          (λ i h. place-at i (rw (listed .places) at h));
+    }
+
+-- a new tag is the same over every image
+pub mission-listed : MissionListed
+unfolding goodCode
+mission-listed image long =
+    let same : newTag fresh number 0x40 ≡ newTag image number 0x40 =
+    new-made fresh number 0x40 (length-new 8832) number-good refl ∙ sym (new-made image number 0x40 long number-good refl) in
+    subst (λ (o : Outcome). ListedSo (leaves o)) same listed-made
