@@ -6,11 +6,13 @@
 --   Reading: Read ROM reads the number; a page that is read is its line of the dump, and nothing changes.
 --   Storing: Write Scratchpad, Read Scratchpad and Copy with a right password store and give back exactly what was written.
 --   Controlling: Clear, Start, Stop and Forced Conversion are done; with a wrong password nothing is, and the line is the same.
+--   Converting: what ticks do to the registers, in a mission and without one.
 -- Below them: slots and events (Slots, Pad), and each command as a run of the exchange. Assumes nothing.
 pub mod Choosing
 pub mod Reading
 pub mod Storing
 pub mod Controlling
+pub mod Converting
 pub mod Slots
 pub mod Pad
 pub mod Pages
@@ -19,3 +21,4 @@ pub mod Commands
 pub mod ReadRun
 pub mod CopyRun
 pub mod ControlRun
+pub mod Deeds

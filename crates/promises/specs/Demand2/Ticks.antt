@@ -37,7 +37,7 @@ use Rattle.promises.specs.History.Laws.{isNone, logs, adds, added, histo
 module _ {start image : List ℕ} {es : List Conversion} {t : ℕ} {c : Counters} (p : Listed start es image) (q : Running start es t image c) where
   -- ---- where the mission stands
 
-  due-of : Mission.due image c ≡ History.isTime (settingsOf start) (t + 1)
+  pub due-of : Mission.due image c ≡ History.isTime (settingsOf start) (t + 1)
   due-of = rw (add-one t, isTime-of start) (due-time (q .time))
 
   nextEntry-of : Mission.nextEntry image ≡ length es
@@ -46,7 +46,7 @@ module _ {start image : List ℕ} {es : List Conversion} {t : ℕ} {c : Counters
       rw (q .waiting, p .settings .suta)
       (next-count (Registers.suta start) (isNone es) (length es) (Registers.missionSamples image) (sym (none-length es)) (p .samples))
 
-  ended-of : length es ≤ History.most (settingsOf start) → Mission.ended image ≡ leb (History.most (settingsOf start)) (length es)
+  pub ended-of : length es ≤ History.most (settingsOf start) → Mission.ended image ≡ leb (History.most (settingsOf start)) (length es)
   unfolding Mission.ended History.most settingsOf
   ended-of le =
       rw (nextEntry-of, places-same (p .settings), p .settings .ro, places-of start)
@@ -80,7 +80,7 @@ module _ {start image : List ℕ} {es : List Conversion} {t : ℕ} {c : Counters
 
     -- ---- a tick that makes no conversion
 
-    quiet : (Mission.due image c && not (Mission.ended image)) ≡ false
+    pub quiet : (Mission.due image c && not (Mission.ended image)) ≡ false
         → Leaves ((0x0200, 6) ∷ (0x0216, 3) ∷ []) [] image (Mission.ticked image c reading)
     quiet e = by-tests (Mission.delaying image) (Mission.due image c) (Mission.ended image) refl refl refl e
       where

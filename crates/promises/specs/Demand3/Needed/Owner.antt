@@ -12,7 +12,7 @@ use Rattle.bits.specs.Bytes.{Bytes}
 use Rattle.exchange.specs.declared.Exchange.{Exchange}
 use Rattle.exchange.specs.Exchange as exchange
 use Rattle.exchange.specs.Runs.{Way, waySlots, wayMark}
-use Rattle.image.specs.Answers.{checked, mayCopy}
+use Rattle.image.specs.Answers.{checked, mayControl, mayCopy}
 use Rattle.image.specs.Answers.Laws.{control-open, copy-idle}
 use Rattle.image.specs.Registers.{mip}
 use Rattle.image.specs.Stored.{storedRun}
@@ -20,12 +20,14 @@ use Rattle.memory.specs.declared.Control.{Control}
 use Rattle.memory.specs.declared.Hearing.{Hearing}
 use Rattle.memory.specs.declared.Stage.{Stage}
 use Rattle.memory.specs.Bus.{clearBus}
+use Rattle.memory.specs.Field.{guarded}
 use Rattle.mission.specs.Mission.{cleared}
 use Rattle.select.specs.declared.Choosing.the-variants.{Command}
 use Rattle.select.specs.Select.{keeps}
-use Rattle.tag.specs.Tag.{resetTag}
+use Rattle.tag.specs.Tag.{performed, resetTag}
 use Rattle.promises.specs.Demand3.{JustReset}
-use Rattle.promises.specs.Line.Controlling.{controlSlots, clears}
+use Rattle.promises.specs.Line.ControlRun.{controlSlots}
+use Rattle.promises.specs.Line.Deeds.{controls}
 use Rattle.promises.specs.Line.Pad.{padOf, reached-pad}
 use Rattle.promises.specs.Line.Slots.{numberOf}
 use Rattle.promises.specs.Line.Storing.{writeSlots, writes-scratchpad, copySlots, writes-and-copies}
@@ -118,10 +120,11 @@ module _ {number : ℕ} {image : List ℕ} {s : State} (o : Owned number image s
         ∙ ap (λ (i : List ℕ). storedRun i address bytes) (o .holds))
 
     pub cleared-owned : Owned number (cleared image) (clearedBy s)
-    unfolding waySlots
+    unfolding waySlots guarded performed
     cleared-owned =
+        let may : mayControl (s .image) 0 ≡ true = rw (o .holds) (control-open image 0 off) in
         told-owned (controlSlots Control.Clear 0 0xFF) o
-        (clears s sound Way.skip 0 (omega arith) (rw (o .holds) (control-open image 0 off)) .1 ∙ ap cleared (o .holds))
+        (ap (λ (r : Ran). r .state .image) (controls s sound Way.skip 0 (omega arith) may Control.Clear refl) ∙ ap cleared (o .holds))
 
   pub is-ready : (bytes : List ℕ) → length bytes ≡ 32 → Bytes bytes → Ready number image bytes (ready s bytes)
   unfolding after resetTag waySlots wayMark
