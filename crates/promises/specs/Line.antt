@@ -13,6 +13,7 @@ pub mod Reading
 pub mod Storing
 pub mod Controlling
 pub mod Converting
+pub mod Passwords
 pub mod Slots
 pub mod Pad
 pub mod Pages

@@ -7,11 +7,11 @@ use mathlib.Core.List.{List, [], _∷_, _++_}
 use mathlib.Core.Logic.{_≢_}
 use Prim.Native.Nat.{ℕ, _+_, _/_, _%_, _^_, _≤_, _<_, min}
 use native.Mathlib.Omega.{arith}
-use borrow.Author.Tests.{eq-eqb, ne-eqb, eqb-true}
+use borrow.Author.Tests.{eq-eqb, ne-eqb}
 use lib.Dec.{eqb}
 use lib.ListN.{getD}
 use Rattle.bits.specs.Bits.{bitsOf}
-use Rattle.bits.specs.Choose.{if_then_else_, either}
+use Rattle.bits.specs.Choose.{if_then_else_}
 use Rattle.calendar.specs.declared.Clock.{Clock}
 use Rattle.exchange.specs.Runs.{Way, wayMark}
 use Rattle.exchange.specs.Runs.Laws.{quiet-then}
@@ -37,6 +37,7 @@ use Rattle.promises.specs.Runs.Laws.{Sound, reached-sound}
 use Rattle.promises.specs.Line.ControlRun.{controlSlots, controlByte, controlBus, control-head, control-undone, control-refused as refused}
 use Rattle.promises.specs.Line.Converting.{highAlarm, lowAlarm}
 use Rattle.promises.specs.Line.Deeds as deeds
+use Rattle.promises.specs.Line.Passwords.{PassesFull, full-may}
 use Rattle.promises.specs.Line.Slots.{numberOf, session, greeting, session-quiet, answersOf, Kept, kept-by}
 
 -- ---- what becomes of the registers, and that every other byte and bit stays
@@ -87,15 +88,6 @@ pub record Beside (moved : Counters) (before after : State) : Type 0 where
   pub number : numberOf after ≡ numberOf before
   pub held : after .tag .exchange .held ≡ before .tag .exchange .held
   pub counters : after .tag .counters ≡ moved
-
--- "With 0227h equal to AAh passwords are checked, else any eight bytes pass": these are the full password, 0230h, where it is checked
-abbrev pub Passes : List ℕ → ℕ → Type 0
-Passes image field = getD image 0x0227 0 ≡ 0xAA → field ≡ wordAt image 0x0230 8
-
-passes-may : (image : List ℕ) (field : ℕ) → Passes image field → mayControl image field ≡ true
-unfolding mayControl checked
-passes-may image field passes =
-    either (λ (b : Bool). b ≡ true) (eqb (getD image 0x0227 0) 0xAA) (λ on. eq-eqb _ _ (passes (eqb-true _ _ on))) (λ off. refl)
 
 -- ---- from what the mission's laws say
 
@@ -160,7 +152,7 @@ start-not image shut = by (Mission.mayStart image) refl
 
 -- ---- Clear, Start, Stop
 
-module _ {s : State} (reached : Reached s) (way : Way) (field : ℕ) (fits : field < 2 ^ 64) (passes : Passes (s .image) field) where
+module _ {s : State} (reached : Reached s) (way : Way) (field : ℕ) (fits : field < 2 ^ 64) (passes : PassesFull (s .image) field) where
   -- the command, the password and FFh
   abbrev commanded : Control → Ran
   commanded control = run s (session s way (controlSlots control field 0xFF))
@@ -170,7 +162,7 @@ module _ {s : State} (reached : Reached s) (way : Way) (field : ℕ) (fits : fie
   Line control = commanded control .line ≡ greeting s way ++ controlSlots control field 0xFF
 
   may : mayControl (s .image) field ≡ true
-  may = passes-may (s .image) field passes
+  may = full-may (s .image) field passes
 
   sound : Sound s
   sound = reached-sound reached
