@@ -64,13 +64,13 @@ unfolding goodNumber goodCrc taps crcBit crcBits mask8 crc8Of bitOf bitsOf xor
 number-good = refl
 
 -- its image, and the tag that is made over any image lent, as over this one
-abbrev fresh : List ℕ
+abbrev pub fresh : List ℕ
 fresh = newImage 8832
 
-abbrev made : State
+abbrev pub made : State
 made = leaves (newTag fresh number 0x40)
 
-made-owned : Owned number fresh made
+pub made-owned : Owned number fresh made
 unfolding goodCode
 made-owned =
     let new = new-made fresh number 0x40 (length-new 8832) number-good refl in
@@ -80,7 +80,7 @@ made-owned =
       holds = ap (λ (o : Outcome). o .image) new;
     }
 
-fresh-at : (k : ℕ) → k ≢ 0x0214 → getD fresh k 0 ≡ 0
+pub fresh-at : (k : ℕ) → k ≢ 0x0214 → getD fresh k 0 ≡ 0
 unfolding newImage
 fresh-at k ne = getD-set-other {A = ℕ} (replicate 8832 0) 0x0214 k 0x80 0 ne ∙ byte-blank 8832 k
 
@@ -88,11 +88,11 @@ fresh-flags : getD fresh 0x0214 0 ≡ 0x80
 unfolding newImage
 fresh-flags = getD-set-same {A = ℕ} (replicate 8832 0) 0x0214 0x80 0 (omega (arith, length-replicate {A = ℕ} 8832 0))
 
-fresh-off : checked fresh ≡ false
+pub fresh-off : checked fresh ≡ false
 unfolding checked
 fresh-off = rw (fresh-at 0x0227 (omega arith))
 
-fresh-idle : mip fresh ≡ false
+pub fresh-idle : mip fresh ≡ false
 unfolding flagAt bitOf
 fresh-idle = rw (fresh-at 0x0215 (omega arith))
 
@@ -137,6 +137,11 @@ pub first-prepared : Prepared firstKeys true first
 first-prepared =
     prepared first-ready (keys-stored fresh firstKeys (length-new 8832) refl (bytes-of firstKeys tt))
     (flag-kept 0x0215 1 first-keeps tt ∙ fresh-idle) (alarmed-kept first-keeps tt ∙ fresh-alarmed)
+
+-- BOR is set
+pub first-bor : flagAt (first .image) 0x0214 7 ≡ true
+unfolding flagAt bitOf
+first-bor = rw (first-ready .holds, first-keeps .bytes 0x0214 tt, fresh-flags)
 
 -- its user memory is all zeros
 pub first-user : (k : ℕ) → k < 0x0200 → getD (first .image) k 0 ≡ 0
