@@ -1,7 +1,8 @@
--- What Write Scratchpad wrote, Read Scratchpad shows; with a password that may, Copy stores exactly that through the tables and
--- sends 0,1,0,1 on; Read Memory gives it back. With one that may not, with another address or E/S than the held ones, and after data
--- that stops short of the page's end or has a broken byte, Copy stores nothing and the line is the master's. (Document 01, "Memory
--- commands".) A reached tag's scratchpad has 32 bytes (`reached-pad`). Assumes nothing.
+-- What Write Scratchpad wrote, Read Scratchpad shows; with a password that passes, Copy stores exactly that through the tables and
+-- sends 0,1,0,1 on; Read Memory gives it back, registers as document 01's own tables say (`Back`). With one that does not, with another
+-- address or E/S than the held ones, and after data that stops short of the page's end or has a broken byte, Copy stores nothing and
+-- the line is the master's. (Document 01, "Memory commands".) A reached tag's scratchpad has 32 bytes (`reached-pad`), and its TA 16
+-- bits (`reached-ta`). Assumes nothing.
 use mathlib.Core.Path.{_≡_, refl, ap, _∙_}
 use mathlib.Core.Bool.{Bool, true, false, and-false}
 use mathlib.Core.List.{List, [], _∷_, _++_}
@@ -37,7 +38,7 @@ use Rattle.promises.specs.Line.ReadRun.{readHead, readSlots, pageSent, s
 use Rattle.promises.specs.Line.Reading.{reads-memory}
 use Rattle.promises.specs.Line.Back.{bytesBack, bytes-back}
 use Rattle.promises.specs.Line.Pad.{reached-pad, reached-ta}
-use Rattle.promises.specs.Line.Passwords.{PassesFull, PassesRead, Copyable, read-may, copy-may}
+use Rattle.promises.specs.Line.Passwords.{PassesFull, PassesRead, Copyable, Barred, read-may, copy-may, copy-may-not}
 use Rattle.promises.specs.Line.CopyRun.{copyHead, copyBus, copy-head, copy-field, copy-other, copies-right, Unlike, copies-unlike, status-lt}
 
 -- ---- Write Scratchpad, Read Scratchpad
@@ -136,10 +137,10 @@ module _ (s : State) (sound : Sound s) (way : Way) (address status field : ℕ) 
       (quiet-then (answersOf s) _ (slotsOf (copyHead address status)) _ (copy-head (answersOf s) number mark held address status fits small)
       (copy-other (answersOf s) number mark held (copyBus address status) field bits whole undone)))
 
-  -- with a password or an address that may not
-  pub copies-nothing : mayCopy (s .image) field address ≡ false → Undone
+  -- with a password that does not pass, or an address that may not be written now
+  pub copies-nothing : Barred (s .image) field address → Undone
   unfolding answerTo copies
-  copies-nothing shut = copies-undone (rw shut (simp and-false))
+  copies-nothing barred = copies-undone (rw (copy-may-not (s .image) field address barred) (simp and-false))
 
   -- with another address or E/S than the held ones, or data that does not reach the page's end or has a broken byte, whatever the
   -- password: "Done exactly if"
