@@ -13,6 +13,7 @@ use Rattle.dock.specs.Entries.{temperatureOf, secondsOf, periodOf}
 use Rattle.dock.specs.Listing.{refused, listingOf, temperaturesOf, secondsAt}
 use Rattle.dump.specs.Dump.{dumpOf}
 use Rattle.image.specs.Registers
+use Rattle.conversion.specs.Conversion as conversion
 use Rattle.mission.specs.Mission
 use Rattle.tag.specs.Tag.{goodCode}
 use Rattle.tag.specs.Tag.Laws.{ranges-of}
@@ -76,7 +77,7 @@ pub record Lists (s : Settings) (entries : List Conversion) (code : ℕ) (dump :
 lists : {start image : List ℕ} {es : List Conversion} → Listed start es image → (code : ℕ) → length es ≤ History.most (settingsOf start)
     → goodCode code ≡ true → (Registers.rate start ≡ 0 → ⊥) → Registers.etl start ≡ true → (lent : List ℤ)
     → Lists (settingsOf start) es code (dumpOf image code) lent
-unfolding settingsOf History.places Mission.places secondsAt periodOf History.period
+unfolding settingsOf History.places conversion.places secondsAt periodOf History.period
 lists p code most good rated logging lent =
     record {
       listing = listing-read p code most good rated logging lent;

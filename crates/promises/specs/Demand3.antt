@@ -11,10 +11,10 @@ use Rattle.image.specs.Answers.{alarmed}
 use Rattle.image.specs.Keeps.{Run}
 use Rattle.image.specs.Leaves.{Flag, Leaves}
 use Rattle.image.specs.Registers.{mip, eosc, passwordControl, readPassword, fullPassword}
-use Rattle.memory.specs.declared.Control.{Control}
-use Rattle.memory.specs.declared.Guarded.{Guarded}
-use Rattle.memory.specs.declared.Hearing.{Hearing}
-use Rattle.memory.specs.declared.Stage.{Stage}
+use Rattle.bus.specs.declared.Control.{Control}
+use Rattle.bus.specs.declared.Guarded.{Guarded}
+use Rattle.bus.specs.declared.Hearing.{Hearing}
+use Rattle.bus.specs.declared.Stage.{Stage}
 use Rattle.select.specs.Select.{isSelected, asksAlarm}
 use Rattle.promises.specs.Runs.{State, Event, after, run, ticksOf, Reached, Always, Together, OnSlots}
 pub mod Slot

@@ -12,14 +12,14 @@ use Rattle.calendar.specs.declared.Clock.{Clock}
 use Rattle.crc.specs.Crc.{taps, crcBit, crcBits, mask8, crc8Of}
 use Rattle.dock.specs.Entries
 use Rattle.dock.specs.Entries.{temperatureOf}
-use Rattle.memory.specs.declared.Hearing.{Hearing}
-use Rattle.memory.specs.declared.Stage.{Stage}
-use Rattle.memory.specs.Bus.{clearBus}
+use Rattle.bus.specs.declared.Hearing.{Hearing}
+use Rattle.bus.specs.declared.Stage.{Stage}
+use Rattle.bus.specs.Bus.{clearBus}
 use Rattle.memory.specs.Hear.{commandStage, addressHeard, stored, afterData, heardWhole, heardBit}
 use Rattle.memory.specs.Memory.{newHeld, stageAsks, asks, stageSlot, onLine, slotOf}
 use Rattle.memory.specs.Runs.{Ran, run}
 use Rattle.mission.specs.Mission
-use Rattle.mission.specs.Mission.{isHigh, isLow}
+use Rattle.conversion.specs.Conversion.{isHigh, isLow}
 use Rattle.promises.specs.History.{Settings, period}
 
 -- ---- how a point is written

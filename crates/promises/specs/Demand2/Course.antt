@@ -22,15 +22,18 @@ use Rattle.exchange.specs.Exchange.Pad.{PaddedIn, exchange-padded, reset-padded
 use Rattle.image.specs.Fields.{flagAt}
 use Rattle.image.specs.Leaves.{word-left}
 use Rattle.image.specs.Registers
-use Rattle.memory.specs.declared.Deed.{Deed}
-use Rattle.mission.specs.Clock.Laws.{stamp-kept}
+use Rattle.bus.specs.declared.Deed.{Deed}
+use Rattle.conversion.specs.Clock.Laws.{stamp-kept}
+use Rattle.conversion.specs.Conversion as conversion
 use Rattle.mission.specs.Mission
 use Rattle.mission.specs.Mission.Commands.{starts, may-start}
 use Rattle.mission.specs.Mission.Frames.{leaves-started}
 use Rattle.mission.specs.Mission.Fresh.{Fresh, fresh-cleared, fresh-stopped, fresh-forced, fresh-ticked, fresh-started, fresh-stored}
-use Rattle.mission.specs.Mission.Settings.{settings-same, settings-started}
+use Rattle.conversion.specs.Conversion.Settings.{settings-same}
+use Rattle.mission.specs.Mission.Settings.{settings-started}
 use Rattle.mission.specs.Mission.Times.{on-time-started}
-use Rattle.mission.specs.Mission.Whole.{Whole, whole-ticked, whole-cleared, whole-started, whole-stopped, whole-forced}
+use Rattle.conversion.specs.Conversion.Whole.{Whole}
+use Rattle.mission.specs.Mission.Whole.{whole-ticked, whole-cleared, whole-started, whole-stopped, whole-forced}
 use Rattle.mission.specs.declared.Counters.{Counters}
 use Rattle.tag.specs.Tag.{performed, performedCounters, newImage, slotted, resetTag, tickTag}
 use Rattle.tag.specs.Tag.Laws.{new-good, new-made, length-new}
@@ -140,7 +143,7 @@ no-stamp s = rw (drop-nil {A = Conversion} (digit (s .suta)))
 
 pub holds-started : {image : List ℕ} → Whole image → Fresh image → Mission.mayStart image ≡ true → (c : Counters)
     → Holds (Mission.started image) [] (Mission.started image) (Mission.startedCounters image c)
-unfolding Mission.waiting clockAfter
+unfolding conversion.waiting clockAfter
 holds-started {image} w b m c =
     let may = may-start image m in
     let before = b (may .memclr) in

@@ -11,16 +11,17 @@ use Rattle.image.specs.Leaves.{leaves-keeps}
 use Rattle.image.specs.Registers
 use Rattle.image.specs.Stored.{storedPage}
 use Rattle.image.specs.Stored.Laws.{keeps-storedPage, bytes-storedPage, keeps-apart}
-use Rattle.memory.specs.declared.Deed.{Deed}
-use Rattle.mission.specs.Clock.Laws.{clock-kept}
+use Rattle.bus.specs.declared.Deed.{Deed}
+use Rattle.conversion.specs.Clock.Laws.{clock-kept, leaves-clocked}
 use Rattle.mission.specs.Mission
 use Rattle.mission.specs.Mission.Commands.{cleared-mission, started-not, mip-stopped, forced-mission}
-use Rattle.mission.specs.Mission.Converts.{waiting-same}
-use Rattle.mission.specs.Mission.Frames.{leaves-clocked, leaves-stopped, leaves-forced}
-use Rattle.mission.specs.Mission.Settings.{settings-left}
+use Rattle.conversion.specs.Conversion.Converts.{waiting-same}
+use Rattle.mission.specs.Mission.Frames.{leaves-stopped, leaves-forced}
+use Rattle.conversion.specs.Conversion.Settings.{settings-left}
 use Rattle.mission.specs.Mission.Ticks.{ticked-idle}
 use Rattle.mission.specs.Mission.Times.{on-time-left}
-use Rattle.mission.specs.Mission.Whole.{Whole, whole-clocked, whole-stopped, whole-forced}
+use Rattle.conversion.specs.Conversion.Whole.{Whole, whole-clocked}
+use Rattle.mission.specs.Mission.Whole.{whole-stopped, whole-forced}
 use Rattle.mission.specs.declared.Counters.{Counters}
 use Rattle.tag.specs.Tag.{performed, performedCounters}
 use Rattle.promises.specs.Demand2.Events.{isStop}

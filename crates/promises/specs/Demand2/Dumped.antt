@@ -19,9 +19,10 @@ use Rattle.image.specs.Registers
 use Rattle.image.specs.Sent.{sentAt}
 use Rattle.image.specs.Sent.Laws.{sent-flag, sent-whole, sent-register, sent-log}
 use Rattle.image.specs.Tables.{named, alwaysOne}
-use Rattle.mission.specs.Clock.{stampOf}
+use Rattle.conversion.specs.Clock.{stampOf}
+use Rattle.conversion.specs.Conversion as conversion
 use Rattle.mission.specs.Mission
-use Rattle.mission.specs.Mission.Whole.{Whole}
+use Rattle.conversion.specs.Conversion.Whole.{Whole}
 
 -- a stamp "in address order"
 abbrev pub sixBytes : Clock → List ℕ
@@ -69,13 +70,13 @@ module _ (image : List ℕ) (code : ℕ) where
       let back : 640 + (0x1000 + j - 0x1000) ≡ 640 + j = omega arith in
       rw back at (sent-log image code (0x1000 + j) (omega arith) (omega arith))
 
-  pub places-sent : Entries.places (sentAt image code) ≡ Mission.places image
-  unfolding Entries.places Mission.places
+  pub places-sent : Entries.places (sentAt image code) ≡ conversion.places image
+  unfolding Entries.places conversion.places
   places-sent = rw tlfs-sent
 
   -- the dock reads the entry that lies at a place
-  pub reading-sent : (k : ℕ) → Entries.readingAt (sentAt image code) k ≡ Mission.entryAt image (k % Mission.places image)
-  unfolding Entries.readingAt Entries.places Mission.entryAt Mission.places
+  pub reading-sent : (k : ℕ) → Entries.readingAt (sentAt image code) k ≡ conversion.entryAt image (k % conversion.places image)
+  unfolding Entries.readingAt Entries.places conversion.entryAt conversion.places
   reading-sent k = rw tlfs-sent (by-format (Registers.tlfs image))
     where
       by-format : (t : Bool)

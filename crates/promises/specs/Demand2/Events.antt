@@ -8,7 +8,7 @@ use Rattle.bits.specs.Choose.{if_then_else_}
 use Rattle.exchange.specs.declared.Slotted.{Slotted}
 use Rattle.exchange.specs.Exchange as exchange
 use Rattle.image.specs.Registers
-use Rattle.memory.specs.declared.Deed.{Deed}
+use Rattle.bus.specs.declared.Deed.{Deed}
 use Rattle.mission.specs.Mission
 use Rattle.tag.specs.Tag.{answerTo}
 use Rattle.promises.specs.Runs.{State, Event, after}

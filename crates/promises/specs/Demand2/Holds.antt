@@ -12,13 +12,14 @@ use Rattle.calendar.specs.Calendar.{clockAfter}
 use Rattle.image.specs.Keeps.{Run, free}
 use Rattle.image.specs.Leaves.{Flag, spares, touched, Leaves, word-left}
 use Rattle.image.specs.Registers
-use Rattle.mission.specs.Clock.{clockOf, stampOf}
-use Rattle.mission.specs.Clock.Laws.{stamp-kept}
+use Rattle.conversion.specs.Clock.{clockOf, stampOf}
+use Rattle.conversion.specs.Clock.Laws.{stamp-kept}
+use Rattle.conversion.specs.Conversion as conversion
 use Rattle.mission.specs.Mission
-use Rattle.mission.specs.Mission.Converts.{entry-kept}
-use Rattle.mission.specs.Mission.Settings.{SameSettings, settings-then, places-same}
+use Rattle.conversion.specs.Conversion.Converts.{entry-kept}
+use Rattle.conversion.specs.Conversion.Settings.{SameSettings, settings-then, places-same}
 use Rattle.mission.specs.Mission.Times.{OnTime}
-use Rattle.mission.specs.Mission.Whole.{Whole}
+use Rattle.conversion.specs.Conversion.Whole.{Whole}
 use Rattle.mission.specs.declared.Counters.{Counters}
 use Rattle.promises.specs.Demand2.AtStart.{settingsOf, places-pos}
 use Rattle.promises.specs.History
@@ -37,15 +38,15 @@ pub record Listed (start : List ℕ) (es : List Conversion) (image : List ℕ) :
   pub samples : Registers.missionSamples image ≡ length es - digit (Registers.suta start)
   pub flags : Registers.suta start ≡ true → (Registers.thf image || Registers.tlf image) ≡ not (isNone es)
   pub stamp : stampOf image ≡ History.stamp (settingsOf start) es
-  pub entries : (k : ℕ) → k < length es → length es ≤ k + Mission.places start
-      → Mission.entryAt image (k % Mission.places start) ≡ History.kept (settingsOf start) (getD es k none .reading)
+  pub entries : (k : ℕ) → k < length es → length es ≤ k + conversion.places start
+      → conversion.entryAt image (k % conversion.places start) ≡ History.kept (settingsOf start) (getD es k none .reading)
 
 -- while the mission runs, t ticks after Start
 pub record Running (start : List ℕ) (es : List Conversion) (t : ℕ) (image : List ℕ) (c : Counters) : Type 0 where
   pub time : OnTime (Registers.delay start) (Mission.period start) t image c
   pub eosc : Registers.eosc image ≡ true
   pub clock : clockOf image ≡ clockAfter t (clockOf start)
-  pub waiting : Mission.waiting image ≡ Registers.suta start && isNone es
+  pub waiting : conversion.waiting image ≡ Registers.suta start && isNone es
 
 -- a running mission whose ticks had these readings
 pub record Holds (start readings image : List ℕ) (c : Counters) : Type 0 where
@@ -71,7 +72,7 @@ listed-left {start = start} l same whole status thf tlf general memclr control s
       samples = word-left 0x0220 3 l samples ∙ p .samples;
       flags = λ s. rw (l .bits 0x0214 1 status thf tt, l .bits 0x0214 0 status tlf tt) (p .flags s);
       stamp = stamp-kept (l .keeps) stamp ∙ p .stamp;
-      entries = λ k lt ge. entry-kept (k % Mission.places start) (l .keeps) control log
+      entries = λ k lt ge. entry-kept (k % conversion.places start) (l .keeps) control log
           (rw (places-same (p .settings)) (mod-lt k (places-pos start)))
           ∙ p .entries k lt ge;
     }

@@ -20,8 +20,9 @@ use Rattle.dump.specs.Dump.{dumpOf, dump-accepted}
 use Rattle.image.specs.Registers
 use Rattle.image.specs.Sent.{sentAt}
 use Rattle.image.specs.Sent.Laws.{sent-code}
+use Rattle.conversion.specs.Conversion as conversion
 use Rattle.mission.specs.Mission
-use Rattle.mission.specs.Mission.Settings.{places-same}
+use Rattle.conversion.specs.Conversion.Settings.{places-same}
 use Rattle.tag.specs.Tag.{goodCode}
 use Rattle.promises.specs.Demand2.Dumped.{sixBytes, ehss-sent, etl-sent, ro-sent, suta-sent, tlf-sent, thf-sent, memclr-sent, places-sent, reading-sent, samples-sent, stamp-sent, rate-sent, dump-agrees}
 use Rattle.promises.specs.Demand2.Holds.{none, Listed}
@@ -68,14 +69,14 @@ module _ {start : List ℕ} {es : List Conversion} {image : List ℕ} (p : Liste
       (sym (none-length es))
       samples-read)
 
-  places-read : Entries.places (sentAt image code) ≡ Mission.places start
+  places-read : Entries.places (sentAt image code) ≡ conversion.places start
   places-read = places-sent image code ∙ places-same (p .settings)
 
-  held-read : Entries.held (sentAt image code) ≡ min (length es) (Mission.places start)
+  held-read : Entries.held (sentAt image code) ≡ min (length es) (conversion.places start)
   unfolding Entries.held
   held-read = rw (entries-read, places-read)
 
-  first-read : Entries.first (sentAt image code) ≡ length es - min (length es) (Mission.places start)
+  first-read : Entries.first (sentAt image code) ≡ length es - min (length es) (conversion.places start)
   unfolding Entries.first
   first-read = rw (entries-read, held-read)
 
@@ -91,7 +92,7 @@ module _ {start : List ℕ} {es : List Conversion} {image : List ℕ} (p : Liste
         (λ e. rated (sym (rate-sent image code (p .whole) ∙ p .settings .rate) ∙ e))
         (etl-sent image code ∙ p .settings .etl ∙ logging)
         (rw (ro-sent image code ∙ p .settings .ro, places-read, entries-read)
-        (full-count (Registers.ro start) (Registers.suta start) (Mission.places start) (length es) (rw (places-of start) at most)))
+        (full-count (Registers.ro start) (Registers.suta start) (conversion.places start) (length es) (rw (places-of start) at most)))
         (rw suta-read
         (flag-count (Registers.suta start) (Entries.isFlagged (sentAt image code)) (isNone es) (length es) (Dock.missionSamples (sentAt image code))
         flagged-read
@@ -110,7 +111,7 @@ module _ {start : List ℕ} {es : List Conversion} {image : List ℕ} (p : Liste
     -- ---- the listing
 
     -- enough places
-    module _ (lent : List ℤ) (enough : min (length es) (Mission.places start) ≤ length lent) where
+    module _ (lent : List ℤ) (enough : min (length es) (conversion.places start) ≤ length lent) where
       fits : Entries.held (sentAt image code) ≤ length lent
       fits = rw held-read enough
 
@@ -118,8 +119,8 @@ module _ {start : List ℕ} {es : List Conversion} {image : List ℕ} (p : Liste
           ≡ record {
             answer = Accepted;
             code = code;
-            held = min (length es) (Mission.places start);
-            first = length es - min (length es) (Mission.places start);
+            held = min (length es) (conversion.places start);
+            first = length es - min (length es) (conversion.places start);
             stamp = sixBytes (History.stamp (settingsOf start) es);
             rate = Registers.rate start;
             ehss = Registers.ehss start;
@@ -143,12 +144,12 @@ module _ {start : List ℕ} {es : List Conversion} {image : List ℕ} (p : Liste
             suta-read,
           )
 
-      pub temperature-read : (i : ℕ) → i < min (length es) (Mission.places start)
+      pub temperature-read : (i : ℕ) → i < min (length es) (conversion.places start)
           → getD (temperaturesOf (dumpOf image code) lent) i (pos 0)
           ≡ Entries.temperatureOf code
-          (History.kept (settingsOf start) (getD es (length es - min (length es) (Mission.places start) + i) none .reading))
+          (History.kept (settingsOf start) (getD es (length es - min (length es) (conversion.places start) + i) none .reading))
       temperature-read i h =
-          let k = length es - min (length es) (Mission.places start) + i in
+          let k = length es - min (length es) (conversion.places start) + i in
           memory-temperature (dumpOf image code) (sentAt image code) (dump-accepted image code (p .whole .bytes) small) (dump-agrees image code (p .whole) small)
           (memclr-sent image code ∙ p .memclr)
           can
@@ -159,7 +160,7 @@ module _ {start : List ℕ} {es : List Conversion} {image : List ℕ} (p : Liste
           ∙ rw (sent-code image code, first-read, reading-sent image code k, places-same (p .settings))
           (ap (Entries.temperatureOf code) (p .entries k (omega arith) (omega (arith, places-pos start))))
 
-      pub past-read : (i : ℕ) → min (length es) (Mission.places start) ≤ i
+      pub past-read : (i : ℕ) → min (length es) (conversion.places start) ≤ i
           → getD (temperaturesOf (dumpOf image code) lent) i (pos 0) ≡ getD lent i (pos 0)
       past-read i h =
           memory-past (dumpOf image code) (sentAt image code) (dump-accepted image code (p .whole .bytes) small) (dump-agrees image code (p .whole) small)
@@ -171,7 +172,7 @@ module _ {start : List ℕ} {es : List Conversion} {image : List ℕ} (p : Liste
           (rw held-read h)
 
     -- too few places
-    module _ (lent : List ℤ) (few : length lent < min (length es) (Mission.places start)) where
+    module _ (lent : List ℤ) (few : length lent < min (length es) (conversion.places start)) where
       pub few-read : (listingOf (dumpOf image code) (length lent) ≡ refused Places) × (temperaturesOf (dumpOf image code) lent ≡ lent)
       few-read =
           let lines = dump-accepted image code (p .whole .bytes) small in

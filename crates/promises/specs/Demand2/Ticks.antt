@@ -16,13 +16,14 @@ use Rattle.bits.specs.Choose.{if_then_else_}
 use Rattle.calendar.specs.Calendar.{nextSecond, clockAfter}
 use Rattle.image.specs.Leaves.{Leaves, leaves-same, leaves-then, leaves-choice, leaves-wider, leaves-putWord}
 use Rattle.image.specs.Registers
-use Rattle.mission.specs.Clock.{clockOf}
-use Rattle.mission.specs.Clock.Laws.{clock-kept}
+use Rattle.conversion.specs.Clock.{clockOf, clocked}
+use Rattle.conversion.specs.Clock.Laws.{clock-kept, leaves-clocked}
+use Rattle.conversion.specs.Conversion as conversion
 use Rattle.mission.specs.Mission
-use Rattle.mission.specs.Mission.Converts.{Converts, waiting-same}
-use Rattle.mission.specs.Mission.Converts as Conversions
-use Rattle.mission.specs.Mission.Frames.{leaves-clocked, leaves-missionTicked, leaves-ticked}
-use Rattle.mission.specs.Mission.Settings.{settings-left, settings-then, places-same, resolved-same, alarms-same}
+use Rattle.conversion.specs.Conversion.Converts.{Converts, waiting-same}
+use Rattle.conversion.specs.Conversion.Converts as Conversions
+use Rattle.mission.specs.Mission.Frames.{leaves-missionTicked, leaves-ticked}
+use Rattle.conversion.specs.Conversion.Settings.{settings-left, settings-then, places-same, resolved-same, alarms-same}
 use Rattle.mission.specs.Mission.Ticks.{clock-clocked, ticked-delaying, ticked-between, ticked-ended, converts-ticked}
 use Rattle.mission.specs.Mission.Times.{due-time, on-time-ticked}
 use Rattle.mission.specs.Mission.Whole.{whole-ticked}
@@ -40,17 +41,17 @@ module _ {start image : List ℕ} {es : List Conversion} {t : ℕ} {c : Counters
   pub due-of : Mission.due image c ≡ History.isTime (settingsOf start) (t + 1)
   due-of = rw (add-one t, isTime-of start) (due-time (q .time))
 
-  nextEntry-of : Mission.nextEntry image ≡ length es
-  unfolding Mission.nextEntry
+  nextEntry-of : conversion.nextEntry image ≡ length es
+  unfolding conversion.nextEntry
   nextEntry-of =
       rw (q .waiting, p .settings .suta)
       (next-count (Registers.suta start) (isNone es) (length es) (Registers.missionSamples image) (sym (none-length es)) (p .samples))
 
-  pub ended-of : length es ≤ History.most (settingsOf start) → Mission.ended image ≡ leb (History.most (settingsOf start)) (length es)
-  unfolding Mission.ended History.most settingsOf
+  pub ended-of : length es ≤ History.most (settingsOf start) → conversion.ended image ≡ leb (History.most (settingsOf start)) (length es)
+  unfolding conversion.ended History.most settingsOf
   ended-of le =
       rw (nextEntry-of, places-same (p .settings), p .settings .ro, places-of start)
-      (end-count (Registers.ro start) (Registers.suta start) (Mission.places start) (length es) (Registers.missionSamples image) (places-le start) (p .samples) (rw (places-of start) at le))
+      (end-count (Registers.ro start) (Registers.suta start) (conversion.places start) (length es) (Registers.missionSamples image) (places-le start) (p .samples) (rw (places-of start) at le))
 
   -- ---- the clock
 
@@ -62,12 +63,12 @@ module _ {start image : List ℕ} {es : List Conversion} {t : ℕ} {c : Counters
     next-clock : clockOf (Mission.ticked image c reading) ≡ clockAfter (t + 1) (clockOf start)
     unfolding Mission.ticked
     next-clock =
-        clock-kept (leaves-missionTicked (Mission.clocked image) c reading .keeps) tt
+        clock-kept (leaves-missionTicked (clocked image) c reading .keeps) tt
         ∙ clock-clocked image (omega (arith, p .whole .size))
         ∙ second-later
 
     running-ticked : {after : List Conversion}
-        → Mission.waiting (Mission.ticked image c reading) ≡ Registers.suta start && isNone after
+        → conversion.waiting (Mission.ticked image c reading) ≡ Registers.suta start && isNone after
         → Running start after (t + 1) (Mission.ticked image c reading) (Mission.tickedCounters image c reading)
     running-ticked e =
         let l = leaves-ticked image c reading in
@@ -80,11 +81,11 @@ module _ {start image : List ℕ} {es : List Conversion} {t : ℕ} {c : Counters
 
     -- ---- a tick that makes no conversion
 
-    pub quiet : (Mission.due image c && not (Mission.ended image)) ≡ false
+    pub quiet : (Mission.due image c && not (conversion.ended image)) ≡ false
         → Leaves ((0x0200, 6) ∷ (0x0216, 3) ∷ []) [] image (Mission.ticked image c reading)
-    quiet e = by-tests (Mission.delaying image) (Mission.due image c) (Mission.ended image) refl refl refl e
+    quiet e = by-tests (Mission.delaying image) (Mission.due image c) (conversion.ended image) refl refl refl e
       where
-        by-tests : (d u f : Bool) → Mission.delaying image ≡ d → Mission.due image c ≡ u → Mission.ended image ≡ f → (u && not f) ≡ false
+        by-tests : (d u f : Bool) → Mission.delaying image ≡ d → Mission.due image c ≡ u → conversion.ended image ≡ f → (u && not f) ≡ false
             → Leaves ((0x0200, 6) ∷ (0x0216, 3) ∷ []) [] image (Mission.ticked image c reading)
         by-tests true u f x y z e =
             rw (ticked-delaying image c reading x)
@@ -94,13 +95,13 @@ module _ {start image : List ℕ} {es : List Conversion} {t : ℕ} {c : Counters
         by-tests false true true x y z e = rw (ticked-ended image c reading y z) (leaves-wider tt (leaves-clocked image))
         by-tests false true false x y z e = absurd (false≢true (sym e))
 
-    listed-quiet : (Mission.due image c && not (Mission.ended image)) ≡ false → Listed start es (Mission.ticked image c reading)
+    listed-quiet : (Mission.due image c && not (conversion.ended image)) ≡ false → Listed start es (Mission.ticked image c reading)
     listed-quiet e =
         let l = quiet e in
         listed-left l (settings-left l tt tt tt tt tt) (whole-ticked c reading (p .whole)) tt tt tt tt tt tt tt tt tt p
 
-    waiting-quiet : (Mission.due image c && not (Mission.ended image)) ≡ false
-        → Mission.waiting (Mission.ticked image c reading) ≡ Registers.suta start && isNone es
+    waiting-quiet : (Mission.due image c && not (conversion.ended image)) ≡ false
+        → conversion.waiting (Mission.ticked image c reading) ≡ Registers.suta start && isNone es
     waiting-quiet e =
         let l = quiet e in
         waiting-same (settings-left l tt tt tt tt tt) (l .bits 0x0215 4 tt tt tt) ∙ q .waiting
@@ -111,32 +112,32 @@ module _ {start image : List ℕ} {es : List Conversion} {t : ℕ} {c : Counters
     unfolding Conversions.logs logs settingsOf
     logs-of = rw (q .waiting, alarms-same (p .settings) reading, alarms-of start reading)
 
-    module _ (small : reading ≤ 2047) (due : Mission.due image c ≡ true) (going : Mission.ended image ≡ false) where
+    module _ (small : reading ≤ 2047) (due : Mission.due image c ≡ true) (going : conversion.ended image ≡ false) where
       made : Converts image (if Registers.eosc image then nextSecond (clockOf image) else clockOf image) reading (Mission.ticked image c reading)
       made = converts-ticked image c reading (p .whole) due going
 
       kept-general : Registers.memclr (Mission.ticked image c reading) ≡ false
       kept-general = leaves-ticked image c reading .bits 0x0215 3 tt tt tt ∙ p .memclr
 
-      place-lt : (k : ℕ) → k % Mission.places start < Mission.places image
+      place-lt : (k : ℕ) → k % conversion.places start < conversion.places image
       place-lt k = rw (places-same (p .settings)) (mod-lt k (places-pos start))
 
       -- one that goes on waiting is not logged
       listed-unlogged : logs (settingsOf start) es reading ≡ false → Listed start es (Mission.ticked image c reading)
-      unfolding Conversions.logs Mission.alarms
+      unfolding Conversions.logs conversion.alarms
       listed-unlogged e =
           let unlogged : Conversions.logs image reading ≡ false = logs-of ∙ e in
-          let waits = unlogged-waits (Mission.waiting image) (Mission.alarms image reading) unlogged in
-          let quiet = unlogged-quiet (Mission.waiting image) (Mission.alarms image reading) unlogged in
+          let waits = unlogged-waits (conversion.waiting image) (conversion.alarms image reading) unlogged in
+          let quiet = unlogged-quiet (conversion.waiting image) (conversion.alarms image reading) unlogged in
           record {
             whole = whole-ticked c reading (p .whole);
             memclr = kept-general;
             settings = settings-then (p .settings) (made .settings);
             samples = made .log .missionSamples ∙ rw waits (p .samples);
             flags = λ s. rw (made .thf, made .tlf)
-                (flags-same (Mission.alarmsHigh image reading) (Mission.alarmsLow image reading) (Registers.thf image) (Registers.tlf image) quiet ∙ p .flags s);
+                (flags-same (conversion.alarmsHigh image reading) (conversion.alarmsLow image reading) (Registers.thf image) (Registers.tlf image) quiet ∙ p .flags s);
             stamp = made .log .stamp ∙ rw waits (p .stamp);
-            entries = λ k lt ge. made .log .entries (k % Mission.places start) (place-lt k) ∙ rw unlogged (p .entries k lt ge);
+            entries = λ k lt ge. made .log .entries (k % conversion.places start) (place-lt k) ∙ rw unlogged (p .entries k lt ge);
           }
 
       -- every other is the next entry
@@ -147,22 +148,22 @@ module _ {start image : List ℕ} {es : List Conversion} {t : ℕ} {c : Counters
         some : isNone (es ++ next ∷ []) ≡ false
         some = none-more es next
 
-        entry-at : (k : ℕ) → k < length (es ++ next ∷ []) → length (es ++ next ∷ []) ≤ k + Mission.places start
-            → Mission.entryAt (Mission.ticked image c reading) (k % Mission.places start)
+        entry-at : (k : ℕ) → k < length (es ++ next ∷ []) → length (es ++ next ∷ []) ≤ k + conversion.places start
+            → conversion.entryAt (Mission.ticked image c reading) (k % conversion.places start)
             ≡ History.kept (settingsOf start) (getD (es ++ next ∷ []) k none .reading)
         entry-at k lt ge =
-            made .log .entries (k % Mission.places start) (place-lt k)
+            made .log .entries (k % conversion.places start) (place-lt k)
             ∙ rw (logs-of ∙ e, nextEntry-of, places-same (p .settings)) (dite (ℕ-discrete k (length es)) last earlier)
           where
             last : k ≡ length es
-                → (if eqb (k % Mission.places start) (length es % Mission.places start) then Mission.resolved image (reading % 2048)
-                else Mission.entryAt image (k % Mission.places start))
+                → (if eqb (k % conversion.places start) (length es % conversion.places start) then conversion.resolved image (reading % 2048)
+                else conversion.entryAt image (k % conversion.places start))
                 ≡ History.kept (settingsOf start) (getD (es ++ next ∷ []) k none .reading)
             last same =
                 let whole : reading % 2048 ≡ reading = omega arith in
                 rw (
                   same,
-                  eq-eqb (length es % Mission.places start) (length es % Mission.places start) refl,
+                  eq-eqb (length es % conversion.places start) (length es % conversion.places start) refl,
                   whole,
                   resolved-same (p .settings) reading,
                   getD-append-seam es next [] none,
@@ -170,20 +171,20 @@ module _ {start image : List ℕ} {es : List Conversion} {t : ℕ} {c : Counters
                 )
 
             earlier : (k ≡ length es → ⊥)
-                → (if eqb (k % Mission.places start) (length es % Mission.places start) then Mission.resolved image (reading % 2048)
-                else Mission.entryAt image (k % Mission.places start))
+                → (if eqb (k % conversion.places start) (length es % conversion.places start) then conversion.resolved image (reading % 2048)
+                else conversion.entryAt image (k % conversion.places start))
                 ≡ History.kept (settingsOf start) (getD (es ++ next ∷ []) k none .reading)
             earlier other =
                 let n : length (es ++ next ∷ []) ≡ length es + 1 = length-append es (next ∷ []) in
                 let before : k < length es = omega arith in
                 rw (
-                  ne-eqb (k % Mission.places start) (length es % Mission.places start) (place-apart start k (length es) before (omega arith)),
+                  ne-eqb (k % conversion.places start) (length es % conversion.places start) (place-apart start k (length es) before (omega arith)),
                   List·getD-append es (next ∷ []) none k before,
                 )
                 (p .entries k before (omega arith))
 
         listed-logged : Listed start (es ++ next ∷ []) (Mission.ticked image c reading)
-        unfolding settingsOf Conversions.logs Mission.alarms
+        unfolding settingsOf Conversions.logs conversion.alarms
         listed-logged =
             record {
               whole = whole-ticked c reading (p .whole);
@@ -193,7 +194,7 @@ module _ {start image : List ℕ} {es : List Conversion} {t : ℕ} {c : Counters
                   ∙ rw (q .waiting, length-append es (next ∷ []))
                   (count-more (Registers.suta start) (isNone es) (length es) (Registers.missionSamples image) (sym (none-length es)) (p .samples));
               flags = λ s. rw (made .thf, made .tlf, some)
-                  (flags-more (Mission.alarmsHigh image reading) (Mission.alarmsLow image reading) (Registers.thf image) (Registers.tlf image) (isNone es)
+                  (flags-more (conversion.alarmsHigh image reading) (conversion.alarmsLow image reading) (Registers.thf image) (Registers.tlf image) (isNone es)
                   (p .flags s)
                   (rw (q .waiting, s) at (logs-of ∙ e)));
               stamp = made .log .stamp
@@ -202,18 +203,18 @@ module _ {start image : List ℕ} {es : List Conversion} {t : ℕ} {c : Counters
               entries = entry-at;
             }
 
-        waiting-logged : Mission.waiting (Mission.ticked image c reading) ≡ Registers.suta start && isNone (es ++ next ∷ [])
-        unfolding Mission.waiting Conversions.logs
+        waiting-logged : conversion.waiting (Mission.ticked image c reading) ≡ Registers.suta start && isNone (es ++ next ∷ [])
+        unfolding conversion.waiting Conversions.logs
         waiting-logged =
             rw (made .log .wfta, made .settings .suta, some, ← p .settings .suta)
-            (waits-no-more (Registers.suta image) (Registers.wfta image) (Mission.alarms image reading) (logs-of ∙ e))
+            (waits-no-more (Registers.suta image) (Registers.wfta image) (conversion.alarms image reading) (logs-of ∙ e))
 
       waiting-unlogged : logs (settingsOf start) es reading ≡ false
-          → Mission.waiting (Mission.ticked image c reading) ≡ Registers.suta start && isNone es
-      unfolding Mission.waiting Conversions.logs
+          → conversion.waiting (Mission.ticked image c reading) ≡ Registers.suta start && isNone es
+      unfolding conversion.waiting Conversions.logs
       waiting-unlogged e =
           rw (made .log .wfta, made .settings .suta)
-          (waits-on (Registers.suta image) (Registers.wfta image) (Mission.alarms image reading) (logs-of ∙ e))
+          (waits-on (Registers.suta image) (Registers.wfta image) (conversion.alarms image reading) (logs-of ∙ e))
           ∙ q .waiting
 
     -- ---- one more tick
@@ -225,7 +226,7 @@ module _ {start image : List ℕ} {es : List Conversion} {t : ℕ} {c : Counters
     more le small =
         by-tests (History.isTime (settingsOf start) (t + 1)) (leb (History.most (settingsOf start)) (length es)) (logs (settingsOf start) es reading) refl refl refl
       where
-        unchanged : (Mission.due image c && not (Mission.ended image)) ≡ false
+        unchanged : (Mission.due image c && not (conversion.ended image)) ≡ false
             → Listed start (es ++ []) (Mission.ticked image c reading)
             × Running start (es ++ []) (t + 1) (Mission.ticked image c reading) (Mission.tickedCounters image c reading)
         unchanged e = rw (append-nil es) (listed-quiet e, running-ticked (waiting-quiet e))

@@ -7,7 +7,8 @@ use lib.ListN.{length}
 use Rattle.image.specs.Leaves.{Leaves, leaves-then, leaves-wider}
 use Rattle.image.specs.Registers.{eosc, mip}
 use Rattle.mission.specs.declared.Counters.{Counters}
-use Rattle.mission.specs.Mission.{clocked, delaying, converting, nextMinute, nextWait, ticked, tickedCounters, forced}
+use Rattle.conversion.specs.Clock.{clocked}
+use Rattle.mission.specs.Mission.{delaying, converting, nextMinute, nextWait, ticked, tickedCounters, forced}
 use Rattle.mission.specs.Mission.Alike.{clocked-both, clocked-apart, eosc-clocked, eosc-forced}
 use Rattle.mission.specs.Mission.Frames.{leaves-forced}
 use Rattle.mission.specs.Mission.Ticks.{mip-clocked, counters-ticked, ticked-idle}

@@ -9,10 +9,10 @@ use Prim.Native.Nat.{ℕ}
 use lib.ListN.{getD}
 use Rattle.image.specs.Answers.{alarmed}
 use Rattle.image.specs.Registers.{mip, readPassword, fullPassword}
-use Rattle.memory.specs.declared.Control.{Control}
-use Rattle.memory.specs.declared.Guarded.{Guarded}
-use Rattle.memory.specs.declared.Stage.{Stage}
-use Rattle.memory.specs.Field.{copies}
+use Rattle.bus.specs.declared.Control.{Control}
+use Rattle.bus.specs.declared.Guarded.{Guarded}
+use Rattle.bus.specs.declared.Stage.{Stage}
+use Rattle.field.specs.Field.{copies}
 use Rattle.promises.specs.Demand3.{EndsField, Conditional, Converted, AlarmsAgree, NoneCarried, Begins, Premises, LeftToTicks}
 use Rattle.promises.specs.Runs.{State, Event, run, ticksOf, Together}
 pub mod Walk

@@ -17,14 +17,14 @@ use Rattle.image.specs.Answers.Laws.{control-refused, copy-refused, read-refuse
 use Rattle.image.specs.Registers.{readPassword, fullPassword}
 use Rattle.memory.specs.Phases.Deeds.{control-done}
 use Rattle.memory.specs.Range.Laws.{ranged}
-use Rattle.memory.specs.declared.Control.{Control}
-use Rattle.memory.specs.declared.Deed.{Deed}
-use Rattle.memory.specs.declared.Guarded.{Guarded}
-use Rattle.memory.specs.declared.Hearing.{Hearing}
-use Rattle.memory.specs.declared.Question.{Question}
-use Rattle.memory.specs.declared.Sending.{Sending}
-use Rattle.memory.specs.declared.Stage.{Stage}
-use Rattle.memory.specs.Field.{fieldQuestion, fieldAsks}
+use Rattle.bus.specs.declared.Control.{Control}
+use Rattle.bus.specs.declared.Deed.{Deed}
+use Rattle.bus.specs.declared.Guarded.{Guarded}
+use Rattle.bus.specs.declared.Hearing.{Hearing}
+use Rattle.bus.specs.declared.Question.{Question}
+use Rattle.bus.specs.declared.Sending.{Sending}
+use Rattle.bus.specs.declared.Stage.{Stage}
+use Rattle.field.specs.Field.{fieldQuestion, fieldAsks}
 use Rattle.memory.specs.Memory as memory
 use Rattle.memory.specs.Phases.{letsRead, letsWrite, lets, free}
 use Rattle.memory.specs.Range.{guardedInRange, hearingInRange, stageInRange}

@@ -13,16 +13,16 @@ use Rattle.crc.specs.Crc.{crc16Byte}
 use Rattle.exchange.specs.Runs.{run, quietly, commanding, chosen}
 use Rattle.exchange.specs.Runs.Laws.{quiet-then}
 use Rattle.exchange.specs.Runs.Commands.{lastly, byte-heard, byte-quiet, field-quiet, run-over}
-use Rattle.memory.specs.declared.Bus.{Bus}
-use Rattle.memory.specs.declared.Control.{Control}
-use Rattle.memory.specs.declared.Guarded.{Guarded}
-use Rattle.memory.specs.declared.Hearing.{Hearing}
-use Rattle.memory.specs.declared.Held.{Held}
-use Rattle.memory.specs.declared.Question.{Question}
-use Rattle.memory.specs.declared.Stage.{Stage}
-use Rattle.memory.specs.Bus.{clearBus, goTo, listens}
+use Rattle.bus.specs.declared.Bus.{Bus}
+use Rattle.bus.specs.declared.Control.{Control}
+use Rattle.bus.specs.declared.Guarded.{Guarded}
+use Rattle.bus.specs.declared.Hearing.{Hearing}
+use Rattle.bus.specs.declared.Held.{Held}
+use Rattle.bus.specs.declared.Question.{Question}
+use Rattle.bus.specs.declared.Stage.{Stage}
+use Rattle.bus.specs.Bus.{clearBus, goTo, listens}
 use Rattle.memory.specs.Hear.{commandStage, deedOf, confirmed, heardWhole}
-use Rattle.memory.specs.Field.{guarded, afterControlling, judged}
+use Rattle.field.specs.Field.{guarded, afterControlling, judged}
 use Rattle.memory.specs.Runs.Scratchpad.{overAt}
 
 -- "96h Clear, CCh Start, 33h Stop .. 55h Forced Conversion"

@@ -19,15 +19,16 @@ use Rattle.image.specs.Answers.{checked, mayControl}
 use Rattle.image.specs.Answers.Laws.{control-refused}
 use Rattle.image.specs.Fields.{wordAt, flagAt}
 use Rattle.image.specs.Leaves.{Leaves}
-use Rattle.memory.specs.declared.Control.{Control}
-use Rattle.memory.specs.declared.Question.{Question}
-use Rattle.memory.specs.Field.{guarded}
-use Rattle.mission.specs.Clock.{stampOf}
+use Rattle.bus.specs.declared.Control.{Control}
+use Rattle.bus.specs.declared.Question.{Question}
+use Rattle.field.specs.Field.{guarded}
+use Rattle.conversion.specs.Clock.{stampOf}
+use Rattle.conversion.specs.Conversion as conversion
 use Rattle.mission.specs.Mission
 use Rattle.mission.specs.Mission.Commands as commands
 use Rattle.mission.specs.Mission.Frames.{leaves-cleared, leaves-started, leaves-stopped, leaves-forced}
 use Rattle.mission.specs.Mission.Ranges.{range-facts}
-use Rattle.mission.specs.Mission.Whole.{Whole}
+use Rattle.conversion.specs.Conversion.Whole.{Whole}
 use Rattle.mission.specs.declared.Counters.{Counters}
 use Rattle.tag.specs.Tag.{answerTo, performed, performedCounters}
 use Rattle.tag.specs.Tag.Laws.{ranges-of}
@@ -124,7 +125,7 @@ module _ {image : List ℕ} (whole : Whole image) where
       record { mip = commands.mip-stopped whole; wfta = left .bits 0x0215 4 tt tt tt; rest = left }
 
   is-forced : (c : Counters) → c .reading ≤ 2047 → flagAt image 0x0215 1 ≡ false → Forced (c .reading) image (Mission.forced image c)
-  unfolding Mission.alarms Mission.alarmsHigh Mission.alarmsLow Mission.isHigh Mission.isLow
+  unfolding conversion.alarms conversion.alarmsHigh conversion.alarmsLow conversion.isHigh conversion.isLow
   is-forced c small idle =
       let done = commands.forces whole c idle in
       let fits : c .reading % 2048 ≡ c .reading = omega arith in

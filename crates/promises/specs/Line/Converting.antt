@@ -17,12 +17,14 @@ use Rattle.calendar.specs.Calendar.{nextSecond}
 use Rattle.calendar.specs.declared.Clock.{Clock}
 use Rattle.image.specs.Fields.{wordAt, flagAt}
 use Rattle.image.specs.Leaves.{Leaves, leaves-then, leaves-wider}
-use Rattle.memory.specs.declared.Deed.{Deed}
-use Rattle.mission.specs.Clock.{clockOf}
-use Rattle.mission.specs.Clock.Laws.{clock-kept}
+use Rattle.bus.specs.declared.Deed.{Deed}
+use Rattle.conversion.specs.Clock.{clockOf}
+use Rattle.conversion.specs.Clock.Laws.{clock-kept, leaves-clocked}
+use Rattle.conversion.specs.Conversion as conversion
 use Rattle.mission.specs.Mission
-use Rattle.mission.specs.Mission.Converts.{Converts}
-use Rattle.mission.specs.Mission.Frames.{leaves-clocked, leaves-missionTicked, leaves-converted}
+use Rattle.conversion.specs.Conversion.Converts.{Converts}
+use Rattle.conversion.specs.Conversion.Frames.{leaves-converted}
+use Rattle.mission.specs.Mission.Frames.{leaves-missionTicked}
 use Rattle.mission.specs.Mission.Ticks.{clock-clocked, ticked-idle, ticked-due, converts-ticked}
 use Rattle.mission.specs.declared.Counters.{Counters}
 use Rattle.tag.specs.Tag.{newTag, performedCounters, slotted, resetTag, tickTag}
@@ -77,7 +79,7 @@ converted-by : {before after : List ℕ} {clock : Clock} (reading : ℕ) → rea
     Leaves ((0x0200, 6) ∷ (0x020C, 2) ∷ (0x0219, 6) ∷ (0x0220, 3) ∷ (0x0223, 3) ∷ (640, 8192) ∷ [])
     ((0x0214, 0) ∷ (0x0214, 1) ∷ (0x0215, 4) ∷ []) before after →
     Converted reading before after
-unfolding Mission.resolved Mission.alarms Mission.alarmsHigh Mission.alarmsLow Mission.isHigh Mission.isLow Mission.waiting
+unfolding conversion.resolved conversion.alarms conversion.alarmsHigh conversion.alarmsLow conversion.isHigh conversion.isLow conversion.waiting
 converted-by reading small made left =
     let whole : reading % 2048 ≡ reading = omega arith in
     record {
@@ -141,7 +143,7 @@ module _ {s : State} (reached : Reached s) (reading : ℕ) (small : reading ≤ 
   unfolding Mission.ticked
   ticks-clock =
       rw (tick-leaves (reached-solid reached) reading small)
-      (clock-kept (leaves-missionTicked (Mission.clocked (s .image)) (s .tag .counters) reading .keeps) tt
+      (clock-kept (leaves-missionTicked (clocked (s .image)) (s .tag .counters) reading .keeps) tt
       ∙ clock-clocked (s .image) (omega (arith, reached-solid reached .whole .size)))
 
   -- "Then, in a mission": with none, MIP (bit 1 of 0215h) 0, a tick does nothing else
@@ -201,7 +203,7 @@ module _ {s : State} (e : Event) (events : List Event) (reached : Reached s) (st
         let running = holding .1 .running in
         let most = History.most (settingsOf (begun .image)) in
         let ended = ended-of listed running (history-le (settingsOf (begun .image)) readings) in
-        let idle : (Mission.due (there .image) (there .tag .counters) && not (Mission.ended (there .image))) ≡ false =
+        let idle : (Mission.due (there .image) (there .tag .counters) && not (conversion.ended (there .image))) ≡ false =
         ⊎-elim (λ (untimely : History.isTime (settingsOf (begun .image)) (length readings + 1) ≡ false). rw (due-of listed running ∙ untimely))
         (λ full. rw (ended ∙ le-leb most _ full) (simp and-false)) none in
         rw (tick-leaves (holding .0) reading small) (quiet listed running reading idle)

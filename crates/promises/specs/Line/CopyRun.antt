@@ -14,17 +14,17 @@ use Rattle.crc.specs.Crc.{crc16Run}
 use Rattle.exchange.specs.Runs.{run, quietly, commanding, chosen}
 use Rattle.exchange.specs.Runs.Laws.{run-nil, quiet-then}
 use Rattle.exchange.specs.Runs.Commands.{lastly, field-gathered, field-quiet, run-over}
-use Rattle.memory.specs.declared.Addressed.{Addressed}
-use Rattle.memory.specs.declared.Bus.{Bus}
-use Rattle.memory.specs.declared.Deed.{Deed}
-use Rattle.memory.specs.declared.Guarded.{Guarded}
-use Rattle.memory.specs.declared.Hearing.{Hearing}
-use Rattle.memory.specs.declared.Held.{Held}
-use Rattle.memory.specs.declared.Question.{Question}
-use Rattle.memory.specs.declared.Stage.{Stage}
-use Rattle.memory.specs.Bus.{goTo, noting, listens, statusByte}
+use Rattle.bus.specs.declared.Addressed.{Addressed}
+use Rattle.bus.specs.declared.Bus.{Bus}
+use Rattle.bus.specs.declared.Deed.{Deed}
+use Rattle.bus.specs.declared.Guarded.{Guarded}
+use Rattle.bus.specs.declared.Hearing.{Hearing}
+use Rattle.bus.specs.declared.Held.{Held}
+use Rattle.bus.specs.declared.Question.{Question}
+use Rattle.bus.specs.declared.Stage.{Stage}
+use Rattle.bus.specs.Bus.{goTo, noting, listens, statusByte}
 use Rattle.memory.specs.Hear.{commandStage, addressHeard, heardWhole}
-use Rattle.memory.specs.Field.{asHeld, toTheEnd, copies, accepted, judged}
+use Rattle.field.specs.Field.{asHeld, toTheEnd, copies, accepted, judged}
 use Rattle.memory.specs.Runs.Scratchpad.{overAt}
 use Rattle.promises.specs.Line.Commands.{heard-then, head-run}
 

@@ -8,13 +8,13 @@ use lib.Dec.{eqb}
 use Rattle.bits.specs.Bits.{bitsOf}
 use Rattle.exchange.specs.Runs.{commanding, Way, wayMark}
 use Rattle.image.specs.Answers.{mayControl}
-use Rattle.memory.specs.declared.Control.{Control}
-use Rattle.memory.specs.declared.Deed.{Deed}
-use Rattle.memory.specs.declared.Hearing.{Hearing}
-use Rattle.memory.specs.declared.Question.{Question}
-use Rattle.memory.specs.declared.Stage.{Stage}
-use Rattle.memory.specs.Bus.{goTo}
-use Rattle.memory.specs.Field.{guarded}
+use Rattle.bus.specs.declared.Control.{Control}
+use Rattle.bus.specs.declared.Deed.{Deed}
+use Rattle.bus.specs.declared.Hearing.{Hearing}
+use Rattle.bus.specs.declared.Question.{Question}
+use Rattle.bus.specs.declared.Stage.{Stage}
+use Rattle.bus.specs.Bus.{goTo}
+use Rattle.field.specs.Field.{guarded}
 use Rattle.memory.specs.Hear.{deedOf}
 use Rattle.tag.specs.Tag.{answerTo}
 use Rattle.promises.specs.Runs.{State, run}

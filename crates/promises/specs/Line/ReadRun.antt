@@ -16,17 +16,17 @@ use Rattle.dump.specs.Lines.{bytesFrom}
 use Rattle.exchange.specs.Runs.{run, quietly, commanding, chosen}
 use Rattle.exchange.specs.Runs.Laws.{run-nil, quiet-then}
 use Rattle.exchange.specs.Runs.Commands.{field-quiet, run-over}
-use Rattle.memory.specs.declared.Addressed.{Addressed}
-use Rattle.memory.specs.declared.Bus.{Bus}
-use Rattle.memory.specs.declared.Guarded.{Guarded}
-use Rattle.memory.specs.declared.Held.{Held}
-use Rattle.memory.specs.declared.Next.{Next}
-use Rattle.memory.specs.declared.Question.{Question}
-use Rattle.memory.specs.declared.Sending.{Sending}
-use Rattle.memory.specs.declared.Stage.{Stage}
-use Rattle.memory.specs.Bus.{goTo, addressing}
+use Rattle.bus.specs.declared.Addressed.{Addressed}
+use Rattle.bus.specs.declared.Bus.{Bus}
+use Rattle.bus.specs.declared.Guarded.{Guarded}
+use Rattle.bus.specs.declared.Held.{Held}
+use Rattle.bus.specs.declared.Next.{Next}
+use Rattle.bus.specs.declared.Question.{Question}
+use Rattle.bus.specs.declared.Sending.{Sending}
+use Rattle.bus.specs.declared.Stage.{Stage}
+use Rattle.bus.specs.Bus.{goTo, addressing}
 use Rattle.memory.specs.Hear.{commandStage, addressHeard}
-use Rattle.memory.specs.Field.{afterReading, judged}
+use Rattle.field.specs.Field.{afterReading, judged}
 use Rattle.memory.specs.Send.{firstByte, afterMemory, afterPage, afterCrc, sentWhole, sendAsks}
 use Rattle.memory.specs.Runs.Scratchpad.{overAt}
 use Rattle.promises.specs.Line.Commands.{sent-then, head-run}

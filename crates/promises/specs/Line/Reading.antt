@@ -17,7 +17,7 @@ use Rattle.exchange.specs.Runs.Laws.{quiet-then}
 use Rattle.hex.specs.Hex.{hexText}
 use Rattle.image.specs.Answers.{mayRead}
 use Rattle.image.specs.Sent.{sentAt}
-use Rattle.memory.specs.declared.Question.{Question}
+use Rattle.bus.specs.declared.Question.{Question}
 use Rattle.tag.specs.Tag.{answerTo}
 use Rattle.promises.specs.Runs.{State, Event, run}
 use Rattle.promises.specs.Runs.Laws.{Sound}

@@ -11,9 +11,9 @@ use Rattle.exchange.specs.Runs as exchange
 use Rattle.exchange.specs.Runs.{Way, waySlots, wayLine, wayMark}
 use Rattle.exchange.specs.Runs.Laws.{quiet-then}
 use Rattle.exchange.specs.Runs.Choosing.{run-way}
-use Rattle.memory.specs.declared.Bus.{Bus}
-use Rattle.memory.specs.declared.Deed.{Deed}
-use Rattle.memory.specs.declared.Question.{Question}
+use Rattle.bus.specs.declared.Bus.{Bus}
+use Rattle.bus.specs.declared.Deed.{Deed}
+use Rattle.bus.specs.declared.Question.{Question}
 use Rattle.tag.specs.Tag.{Outcome, answerTo, performed, performedCounters, slotted, resetTag}
 use Rattle.promises.specs.Runs.{State, Event, leaves, happens, after, lineBit, Ran, run}
 use Rattle.promises.specs.Runs.Laws.{Sound, sound-after, slot-happens, reset-happens}

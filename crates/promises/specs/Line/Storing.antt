@@ -22,13 +22,13 @@ use Rattle.image.specs.Keeps.{Keeps}
 use Rattle.image.specs.Sent.{sentAt}
 use Rattle.image.specs.Stored.{storedRun, storedPage}
 use Rattle.image.specs.Stored.Laws.{keeps-storedRun}
-use Rattle.memory.specs.declared.Deed.{Deed}
-use Rattle.memory.specs.declared.Guarded.{Guarded}
-use Rattle.memory.specs.declared.Hearing.{Hearing}
-use Rattle.memory.specs.declared.Question.{Question}
-use Rattle.memory.specs.declared.Stage.{Stage}
-use Rattle.memory.specs.Bus.{clearBus, goTo, statusByte}
-use Rattle.memory.specs.Field.{copies, accepted}
+use Rattle.bus.specs.declared.Deed.{Deed}
+use Rattle.bus.specs.declared.Guarded.{Guarded}
+use Rattle.bus.specs.declared.Hearing.{Hearing}
+use Rattle.bus.specs.declared.Question.{Question}
+use Rattle.bus.specs.declared.Stage.{Stage}
+use Rattle.bus.specs.Bus.{clearBus, goTo, statusByte}
+use Rattle.field.specs.Field.{copies, accepted}
 use Rattle.memory.specs.Runs.Scratchpad.{overAt, padBytes, read-scratchpad, writeHead, writtenTo, write-scratchpad, rest-of-page}
 use Rattle.tag.specs.Tag.{answerTo, performed, performedCounters}
 use Rattle.promises.specs.Runs.{State, run, Reached}

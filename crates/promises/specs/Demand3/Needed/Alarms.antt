@@ -12,7 +12,7 @@ use Rattle.bits.specs.Bits.Laws.{digit-one}
 use Rattle.exchange.specs.Runs.Laws.{run-choosing}
 use Rattle.image.specs.Answers.{alarmed}
 use Rattle.image.specs.Registers.{readPassword, fullPassword}
-use Rattle.memory.specs.declared.Question.{Question}
+use Rattle.bus.specs.declared.Question.{Question}
 use Rattle.select.specs.declared.Select.{Select}
 use Rattle.select.specs.Runs as runs
 use Rattle.select.specs.Select.{slotOf, isSelected}

@@ -23,10 +23,12 @@ use Rattle.image.specs.Registers.{readPassword, fullPassword}
 use Rattle.image.specs.Stored.{blend, storedByte, storedRun}
 use Rattle.image.specs.Stored.Laws.{keeps-storedRun, storedRun-at}
 use Rattle.image.specs.Tables.{writable}
+use Rattle.conversion.specs.Conversion as conversion
 use Rattle.mission.specs.Mission
 use Rattle.mission.specs.Mission.Commands as commands
 use Rattle.mission.specs.Mission.Frames.{leaves-cleared, leaves-started, mip-cleared}
-use Rattle.mission.specs.Mission.Settings.{SameSettings, settings-left, settings-cleared, settings-started}
+use Rattle.conversion.specs.Conversion.Settings.{SameSettings, settings-left}
+use Rattle.mission.specs.Mission.Settings.{settings-cleared, settings-started}
 use Rattle.mission.specs.Mission.Ticks.{converts-ticked}
 use Rattle.mission.specs.declared.Counters.{Counters}
 use Rattle.select.specs.Runs as runs
@@ -103,12 +105,12 @@ module _ {keys : List ℕ} {s : State} (p : UnderWay keys s) (reading : ℕ) (lo
   unfolding Mission.due Mission.converting
   due = rw (p .wait, p .running, p .sails .delay, p .sails .rate)
 
-  going : Mission.ended (s .image) ≡ false
-  unfolding Mission.ended
+  going : conversion.ended (s .image) ≡ false
+  unfolding conversion.ended
   going = rw (p .samples, p .sails .ro)
 
   warm-flag : Registers.thf (warm .image) ≡ true
-  unfolding Mission.alarmsHigh Mission.isHigh
+  unfolding conversion.alarmsHigh conversion.isHigh
   warm-flag =
       rw (tick-leaves solid reading low)
       (converts-ticked (s .image) (s .tag .counters) reading (solid .whole) due going .thf

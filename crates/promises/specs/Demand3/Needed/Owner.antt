@@ -16,12 +16,12 @@ use Rattle.image.specs.Answers.{checked, mayControl, mayCopy}
 use Rattle.image.specs.Answers.Laws.{control-open, copy-idle}
 use Rattle.image.specs.Registers.{mip}
 use Rattle.image.specs.Stored.{storedRun}
-use Rattle.memory.specs.declared.Control.{Control}
-use Rattle.memory.specs.declared.Deed.{Deed}
-use Rattle.memory.specs.declared.Hearing.{Hearing}
-use Rattle.memory.specs.declared.Stage.{Stage}
-use Rattle.memory.specs.Bus.{clearBus, goTo}
-use Rattle.memory.specs.Field.{guarded}
+use Rattle.bus.specs.declared.Control.{Control}
+use Rattle.bus.specs.declared.Deed.{Deed}
+use Rattle.bus.specs.declared.Hearing.{Hearing}
+use Rattle.bus.specs.declared.Stage.{Stage}
+use Rattle.bus.specs.Bus.{clearBus, goTo}
+use Rattle.field.specs.Field.{guarded}
 use Rattle.mission.specs.Mission.{cleared, started, startedCounters}
 use Rattle.select.specs.declared.Choosing.the-variants.{Command}
 use Rattle.select.specs.Select.{keeps}

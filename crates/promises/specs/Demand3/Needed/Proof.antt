@@ -17,7 +17,7 @@ use Rattle.image.specs.Fields.{wordAt}
 use Rattle.image.specs.Keeps.{free}
 use Rattle.image.specs.Registers.{eosc, readPassword, fullPassword}
 use Rattle.image.specs.Sent.Laws.{sent-user}
-use Rattle.memory.specs.declared.Control.{Control}
+use Rattle.bus.specs.declared.Control.{Control}
 use Rattle.select.specs.Runs as runs
 use Rattle.select.specs.Select as select
 use Rattle.promises.specs.Demand3.{Alike, NoPassword, AlarmsAgree, Begins, NoneCarried, spoiltRuns, LeftToTicks}

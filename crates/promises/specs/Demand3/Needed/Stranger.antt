@@ -10,12 +10,12 @@ use Rattle.bits.specs.Bits.{bitOf, bitsOf, shiftIn, slotsOf}
 use Rattle.exchange.specs.declared.Exchange.{Exchange}
 use Rattle.exchange.specs.Exchange.{asks, slotOf}
 use Rattle.image.specs.Registers.{mip, passwordControl}
-use Rattle.memory.specs.declared.Control.{Control}
-use Rattle.memory.specs.declared.Guarded.{Guarded}
-use Rattle.memory.specs.declared.Hearing.{Hearing}
-use Rattle.memory.specs.declared.Stage.{Stage}
-use Rattle.memory.specs.Bus.{statusByte}
-use Rattle.memory.specs.Field.{asHeld, toTheEnd, copies, fieldAsks, judged, gatheredBit, afterReading, afterControlling}
+use Rattle.bus.specs.declared.Control.{Control}
+use Rattle.bus.specs.declared.Guarded.{Guarded}
+use Rattle.bus.specs.declared.Hearing.{Hearing}
+use Rattle.bus.specs.declared.Stage.{Stage}
+use Rattle.bus.specs.Bus.{statusByte}
+use Rattle.field.specs.Field.{asHeld, toTheEnd, copies, fieldAsks, judged, gatheredBit, afterReading, afterControlling}
 use Rattle.memory.specs.Hear.{commandStage, addressHeard, confirmed, heardWhole, heardBit}
 use Rattle.memory.specs.Memory as memory
 use Rattle.select.specs.Select as select

@@ -25,7 +25,7 @@ use Rattle.image.specs.Stored.Laws.{length-storedRun, keeps-storedRun, storedRu
 use Rattle.mission.specs.Mission.{cleared}
 use Rattle.mission.specs.Mission.Commands as commands
 use Rattle.mission.specs.Mission.Frames.{leaves-cleared, mip-cleared}
-use Rattle.mission.specs.Mission.Whole.{Whole}
+use Rattle.conversion.specs.Conversion.Whole.{Whole}
 use Rattle.tag.specs.Tag.{Outcome, goodNumber, goodCode, newImage, newTag}
 use Rattle.tag.specs.Tag.Laws.{new-made, length-new}
 use Rattle.promises.specs.Demand2.Course.{reached-solid}

@@ -12,9 +12,9 @@ use Rattle.exchange.specs.Exchange.{asks, slotOf, afterReset}
 use Rattle.image.specs.Answers.{checked}
 use Rattle.image.specs.Answers.Laws.{control-refused, copy-refused, read-refused}
 use Rattle.image.specs.Registers.{mip, readPassword, fullPassword}
-use Rattle.memory.specs.declared.Guarded.{Guarded}
-use Rattle.memory.specs.declared.Question.{Question}
-use Rattle.memory.specs.Field.{fieldQuestion, fieldAsks}
+use Rattle.bus.specs.declared.Guarded.{Guarded}
+use Rattle.bus.specs.declared.Question.{Question}
+use Rattle.field.specs.Field.{fieldQuestion, fieldAsks}
 use Rattle.memory.specs.Memory as memory
 use Rattle.mission.specs.Mission.Frames.{mip-ticked, mip-forced}
 use Rattle.select.specs.declared.Choosing.{Choosing}
