@@ -36,6 +36,7 @@ pub mod Ticks
 pub mod Events
 pub mod Deeds
 pub mod Course
+pub mod Going
 pub mod Dumped
 pub mod Listing
 pub mod Met

@@ -1,16 +1,22 @@
 -- Demand 2 of the order on the line, so that a dead tag is shut out: what a master gets who does it right, over runs of events: a
 -- reset, a ROM command that chooses the tag (Read ROM, Match, Search or Skip), and a memory command's slots, from any state that no
--- event refuses (`Sound`; every reached state is one, `reached-sound`).
+-- event refuses (`Sound`; every reached state is one, `reached-sound`); what becomes of the registers, from any reached state.
 -- The statements:
 --   Choosing: Conditional Search is joined with an alarm flag, and passed over without.
 --   Reading: Read ROM reads the number; a page that is read is its line of the dump, and nothing changes.
---   Storing: Write Scratchpad, Read Scratchpad and Copy with a right password store and give back exactly what was written.
---   Controlling: Clear, Start, Stop and Forced Conversion are done; with a wrong password nothing is, and the line is the same.
--- Below them: slots and events (Slots, Pad), and each command as a run of the exchange. Assumes nothing.
+--   Storing: Write Scratchpad, Read Scratchpad and Copy with a right password store and give back exactly what was written, through
+--     document 01's tables (Back).
+--   Controlling: Clear, Start, Stop and Forced Conversion do what document 01 says of the registers; with a wrong password nothing is
+--     done, and the line is the same.
+--   Converting: what ticks do to the registers, in a mission and without one.
+-- Below them: which eight bytes pass (Passwords), slots and events (Slots, Pad), and each command as a run of the exchange.
+-- Assumes nothing.
 pub mod Choosing
 pub mod Reading
 pub mod Storing
 pub mod Controlling
+pub mod Converting
+pub mod Passwords
 pub mod Slots
 pub mod Pad
 pub mod Pages
@@ -19,3 +25,4 @@ pub mod Commands
 pub mod ReadRun
 pub mod CopyRun
 pub mod ControlRun
+pub mod Deeds

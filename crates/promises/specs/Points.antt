@@ -1,21 +1,26 @@
 -- The (P) points of document 01, "Points on both sides of a line": one table of what the definitions give and what the document says,
 -- one test that is computed over it, one statement. Assumes nothing.
 use mathlib.Core.Bool.{Bool, true, false, _&&_, xor}
-use mathlib.Core.List.{List, [], _∷_}
+use mathlib.Core.List.{List, [], _∷_, flatMap}
 use Prim.Native.Nat.{ℕ, suc}
 use lib.Dec.{T, eqb}
 use lib.IntN.{ℤ, pos, negsuc}
-use Rattle.bits.specs.Bits.{digit, bitOf, bitsOf}
+use lib.ListN.{take}
+use Rattle.bits.specs.Bits.{digit, bitOf, bitsOf, shiftIn, slotsOf}
 use Rattle.calendar.specs.Calendar.{nextSecond, nextDay, carried, stepHours, stepMonth, stepField, isValid, plusOne, flipped, isLeap, daysIn, decimal}
 use Rattle.calendar.specs.declared.Clock.{Clock}
 use Rattle.crc.specs.Crc.{taps, crcBit, crcBits, mask8, crc8Of}
+use Rattle.dock.specs.Entries
 use Rattle.dock.specs.Entries.{temperatureOf}
 use Rattle.bus.specs.declared.Hearing.{Hearing}
 use Rattle.bus.specs.declared.Stage.{Stage}
-use Rattle.memory.specs.Hear.{loaded, afterData}
-use Rattle.bus.specs.Bus.{newHeld}
+use Rattle.bus.specs.Bus.{newHeld, clearBus}
+use Rattle.memory.specs.Hear.{commandStage, addressHeard, stored, afterData, heardWhole, heardBit}
+use Rattle.memory.specs.Memory.{stageAsks, asks, stageSlot, onLine, slotOf}
+use Rattle.memory.specs.Runs.{Ran, run}
+use Rattle.mission.specs.Mission
 use Rattle.conversion.specs.Conversion.{isHigh, isLow}
-use Rattle.mission.specs.Mission.{periodOf}
+use Rattle.promises.specs.History.{Settings, period}
 
 -- ---- how a point is written
 
@@ -39,21 +44,36 @@ clock seconds minutes hours date month year = record { seconds = seconds; minute
 abbrev pub six : Clock → List ℕ
 six c = c .seconds ∷ c .minutes ∷ c .hours ∷ c .date ∷ c .month ∷ c .year ∷ []
 
--- the place of the next data byte; past the scratchpad's end none is heard
-abbrev pub hearingPlace : Hearing → ℕ
-hearingPlace (Hearing.Data place) = place
-hearingPlace Hearing.Command = 32
-hearingPlace (Hearing.Low a) = 32
-hearingPlace (Hearing.High a) = 32
-hearingPlace Hearing.Status = 32
-hearingPlace (Hearing.Confirm c) = 32
+-- a new tag that hears the first n bytes of a Write Scratchpad to 013Ch, slot by slot
+abbrev pub writing : ℕ → Ran
+writing n =
+    run (λ question. 0) newHeld (clearBus (Stage.Hears Hearing.Command))
+    (slotsOf (take n (0x0F ∷ 0x3C ∷ 0x01 ∷ 0xA0 ∷ 0xA1 ∷ 0xA2 ∷ 0xA3 ∷ [])))
 
-abbrev pub nextPlace : Stage → ℕ
-nextPlace (Stage.Hears h) = hearingPlace h
-nextPlace Stage.Over = 32
-nextPlace (Stage.Gathers g) = 32
-nextPlace (Stage.Sends s) = 32
-nextPlace Stage.Copied = 32
+-- whether it sends, and no longer listens
+abbrev pub sends : Stage → ℕ
+sends (Stage.Sends s) = 1
+sends (Stage.Hears h) = 0
+sends Stage.Over = 0
+sends (Stage.Gathers g) = 0
+sends Stage.Copied = 0
+
+-- a mission's settings with this rate in minutes, for its history
+abbrev pub minutes : ℕ → Settings
+minutes rate =
+    record {
+      rate = rate;
+      ehss = false;
+      delay = 0;
+      suta = false;
+      ro = false;
+      tlfs = false;
+      low = 0;
+      high = 0;
+      etla = false;
+      etha = false;
+      clock = clock 0 0 0 0 0 0;
+    }
 
 -- ---- the table
 
@@ -77,11 +97,12 @@ table =
     ∷ (digit (isHigh 0x54 671) ∷ digit (isHigh 0x54 672) ∷ [] gives 0 ∷ 1 ∷ [])
     -- low 54h: 679 yes, 680 no
     ∷ (digit (isLow 0x54 679) ∷ digit (isLow 0x54 680) ∷ [] gives 1 ∷ 0 ∷ [])
-    -- rate 16383 in minutes: 982,980 s
-    ∷ (periodOf false 16383 ∷ [] gives 982980 ∷ [])
-    -- address 013Ch: offset 1Ch, full after 4 bytes
-    ∷ (loaded newHeld 0x013C .ending ∷ nextPlace (afterData 0x1C) ∷ nextPlace (afterData 0x1D) ∷ nextPlace (afterData 0x1E) ∷ nextPlace (afterData 0x1F) ∷ []
-    gives 0x1C ∷ 0x1D ∷ 0x1E ∷ 0x1F ∷ 0x20 ∷ [])
+    -- rate 16383 in minutes: 982,980 s, to the mission, to the dock and to the history
+    ∷ (Mission.periodOf false 16383 ∷ Entries.periodOf 16383 false ∷ period (minutes 16383) ∷ [] gives 982980 ∷ 982980 ∷ 982980 ∷ [])
+    -- address 013Ch: offset 1Ch, full after 4 bytes: the ending offset after the address and after each byte, and when the CRC-16 follows
+    ∷ (writing 3 .held .ending ∷ writing 4 .held .ending ∷ writing 5 .held .ending ∷ writing 6 .held .ending ∷ writing 7 .held .ending ∷ []
+    gives 0x1C ∷ 0x1C ∷ 0x1D ∷ 0x1E ∷ 0x1F ∷ [])
+    ∷ (sends (writing 3 .bus .stage) ∷ sends (writing 6 .bus .stage) ∷ sends (writing 7 .bus .stage) ∷ [] gives 0 ∷ 0 ∷ 1 ∷ [])
     ∷ []
 
 -- ---- the test, and the statement
@@ -97,5 +118,6 @@ right [] = true
 right (p ∷ ps) = same (p .given) (p .said) && right ps
 
 pub points : T (right table)
-unfolding table taps crcBit crcBits mask8 crc8Of bitOf bitsOf xor temperatureOf nextSecond nextDay carried stepHours stepMonth stepField isValid plusOne flipped isLeap daysIn decimal isHigh isLow periodOf afterData
+unfolding table taps crcBit crcBits mask8 crc8Of bitOf bitsOf xor temperatureOf nextSecond nextDay carried stepHours stepMonth stepField isValid plusOne flipped isLeap daysIn decimal isHigh isLow Mission.periodOf Entries.periodOf period
+    run slotOf stageSlot onLine asks stageAsks heardBit heardWhole addressHeard stored commandStage afterData shiftIn flatMap
 points = tt

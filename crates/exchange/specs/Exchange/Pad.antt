@@ -1,4 +1,4 @@
--- A scratchpad of 32 bytes stays one, from a new tag on. Assumes nothing.
+-- A scratchpad of 32 bytes stays one, and TA has 16 bits, from a new tag on. Assumes nothing.
 use Prim.Native.Nat.{ℕ}
 use mathlib.Core.Bool.{Bool}
 use native.Mathlib.Omega.{arith}
@@ -13,10 +13,10 @@ abbrev pub PaddedIn : Exchange → Type 0
 PaddedIn x = Padded (x .held) (x .bus)
 
 pub new-padded : (number : ℕ) → PaddedIn (newExchange number)
-new-padded number = record { size = length-replicate {A = ℕ} 32 0; bytes = bytes-blank 32; heard = tt }
+new-padded number = record { size = length-replicate {A = ℕ} 32 0; bytes = bytes-blank 32; address = omega arith; heard = tt }
 
 pub reset-padded : (x : Exchange) → PaddedIn x → PaddedIn (afterReset x)
-reset-padded x p = record { size = p .size; bytes = p .bytes; heard = omega arith }
+reset-padded x p = record { size = p .size; bytes = p .bytes; address = p .address; heard = omega arith }
 
 pub exchange-padded : (x : Exchange) (bit : Bool) (answer : ℕ) → PaddedIn x → PaddedIn (slotOf x bit answer .exchange)
 exchange-padded x bit answer p =

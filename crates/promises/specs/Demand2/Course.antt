@@ -58,7 +58,7 @@ pub record Solid (s : State) : Type 0 where
 -- ---- what each event leaves
 
 module _ {s : State} (solid : Solid s) where
-  tick-leaves : (reading : ℕ) → reading ≤ 2047 → after s (Event.tick reading)
+  pub tick-leaves : (reading : ℕ) → reading ≤ 2047 → after s (Event.tick reading)
       ≡ record {
         image = Mission.ticked (s .image) (s .tag .counters) reading;
         tag = record { code = s .tag .code; counters = Mission.tickedCounters (s .image) (s .tag .counters) reading; exchange = s .tag .exchange };
@@ -66,7 +66,7 @@ module _ {s : State} (solid : Solid s) where
   unfolding after tickTag
   tick-leaves reading small = rw (tick-happens (solid .sound) reading small)
 
-  reset-leaves : after s Event.reset
+  pub reset-leaves : after s Event.reset
       ≡ record {
         image = s .image;
         tag = record { code = s .tag .code; counters = s .tag .counters; exchange = exchange.afterReset (s .tag .exchange) };
@@ -74,7 +74,7 @@ module _ {s : State} (solid : Solid s) where
   unfolding after resetTag
   reset-leaves = rw (reset-happens (solid .sound))
 
-  slot-leaves : (bit : Bool) → after s (Event.slot bit)
+  pub slot-leaves : (bit : Bool) → after s (Event.slot bit)
       ≡ record {
         image = performed (slotAt s bit .deed) (slotAt s bit .exchange) (s .tag .counters) (s .image);
         tag = record {
@@ -102,7 +102,7 @@ performed-whole Deed.Start solid bit = (whole-started (solid .whole), fresh-star
 performed-whole Deed.Stop solid bit = (whole-stopped (solid .whole), fresh-stopped (solid .fresh) (solid .whole))
 performed-whole Deed.Convert {s} solid bit = (whole-forced (s .tag .counters) (solid .whole), fresh-forced (solid .fresh) (s .tag .counters))
 
-slot-padded : {s : State} → Solid s → (bit : Bool) → PaddedIn (slotAt s bit .exchange)
+pub slot-padded : {s : State} → Solid s → (bit : Bool) → PaddedIn (slotAt s bit .exchange)
 unfolding slotAt
 slot-padded {s} solid bit = exchange-padded (s .tag .exchange) bit _ (solid .padded)
 
@@ -181,7 +181,7 @@ pub etl-started : (image : List ℕ) → Mission.mayStart image ≡ true → Reg
 etl-started image m = settings-started image .etl ∙ may-start image m .etl
 
 -- document 01's four facts are all that it asks for
-four-facts : {image : List ℕ} → MayStart image → Mission.mayStart image ≡ true
+pub four-facts : {image : List ℕ} → MayStart image → Mission.mayStart image ≡ true
 unfolding Mission.mayStart flagAt
 four-facts {image} may =
     rw (may .memclr, may .mip, may .etl, ne-eqb (Registers.rate image) 0 (λ none. may .rate (rate-of image ∙ none)))
@@ -209,7 +209,7 @@ starts-after (Event.tick reading) solid starts = let command = starts .command i
 -- ---- the events after it
 
 -- what a slot asks of its premise
-slot-stores : {s : State} → Solid s → (bit : Bool) → Spares s (Event.slot bit)
+pub slot-stores : {s : State} → Solid s → (bit : Bool) → Spares s (Event.slot bit)
     → slotAt s bit .deed ≡ Deed.Store → (slotAt s bit .exchange .held .ta < 0x0200) ⊎ (0x0240 ≤ slotAt s bit .exchange .held .ta)
 unfolding deedAt
 slot-stores solid bit spares e = rw (slot-leaves solid bit) at (spares .store e)

@@ -18,7 +18,7 @@ use Rattle.tag.specs.Tag.{newTag}
 use Rattle.promises.specs.Demand2.AtStart.{byteAt}
 use Rattle.promises.specs.Demand2.Events.{MayStart, Starts}
 use Rattle.promises.specs.Demand3.Needed.Owner.{skipping}
-use Rattle.promises.specs.Line.Controlling.{controlSlots}
+use Rattle.promises.specs.Line.ControlRun.{controlSlots}
 use Rattle.promises.specs.Line.Slots.{session}
 use Rattle.promises.specs.Line.Storing.{writeSlots, copySlots}
 use Rattle.promises.specs.Runs.{State, Event, leaves, run, Reached}

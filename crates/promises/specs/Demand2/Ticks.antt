@@ -38,7 +38,7 @@ use Rattle.promises.specs.History.Laws.{isNone, logs, adds, added, histo
 module _ {start image : List ℕ} {es : List Conversion} {t : ℕ} {c : Counters} (p : Listed start es image) (q : Running start es t image c) where
   -- ---- where the mission stands
 
-  due-of : Mission.due image c ≡ History.isTime (settingsOf start) (t + 1)
+  pub due-of : Mission.due image c ≡ History.isTime (settingsOf start) (t + 1)
   due-of = rw (add-one t, isTime-of start) (due-time (q .time))
 
   nextEntry-of : conversion.nextEntry image ≡ length es
@@ -47,7 +47,7 @@ module _ {start image : List ℕ} {es : List Conversion} {t : ℕ} {c : Counters
       rw (q .waiting, p .settings .suta)
       (next-count (Registers.suta start) (isNone es) (length es) (Registers.missionSamples image) (sym (none-length es)) (p .samples))
 
-  ended-of : length es ≤ History.most (settingsOf start) → conversion.ended image ≡ leb (History.most (settingsOf start)) (length es)
+  pub ended-of : length es ≤ History.most (settingsOf start) → conversion.ended image ≡ leb (History.most (settingsOf start)) (length es)
   unfolding conversion.ended
   ended-of le =
       rw (nextEntry-of, places-same (p .settings), p .settings .ro, most-of start)
@@ -81,7 +81,7 @@ module _ {start image : List ℕ} {es : List Conversion} {t : ℕ} {c : Counters
 
     -- ---- a tick that makes no conversion
 
-    quiet : (Mission.due image c && not (conversion.ended image)) ≡ false
+    pub quiet : (Mission.due image c && not (conversion.ended image)) ≡ false
         → Leaves ((0x0200, 6) ∷ (0x0216, 3) ∷ []) [] image (Mission.ticked image c reading)
     quiet e = by-tests (Mission.delaying image) (Mission.due image c) (conversion.ended image) refl refl refl e
       where

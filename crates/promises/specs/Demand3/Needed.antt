@@ -1,5 +1,6 @@
--- Demand 3 says something: all its premises can be met, and the last two are needed. Three statements, each of two tags and two
--- runs that there are: `premises-met`, `fields-needed` and `alarms-needed` in Needed/Proof.antt prove them. Assumes nothing.
+-- Demand 3 says something: all its premises can be met, without a mission and in one, and the last two are needed. Five statements,
+-- each of two tags and two runs that there are: `premises-met`, `fields-needed`, `alarms-needed` and `spoils-with-password` in
+-- Needed/Proof.antt and `mission-met` in Needed/Mission.antt prove them. Assumes nothing.
 use mathlib.Core.Path.{_≡_}
 use mathlib.Core.Bool.{Bool, true}
 use mathlib.Core.List.{List, _∷_, _++_}
@@ -7,12 +8,12 @@ use mathlib.Core.Logic.{_≢_}
 use Prim.Native.Nat.{ℕ}
 use lib.ListN.{getD}
 use Rattle.image.specs.Answers.{alarmed}
-use Rattle.image.specs.Registers.{readPassword, fullPassword}
+use Rattle.image.specs.Registers.{mip, readPassword, fullPassword}
 use Rattle.bus.specs.declared.Control.{Control}
 use Rattle.bus.specs.declared.Guarded.{Guarded}
 use Rattle.bus.specs.declared.Stage.{Stage}
 use Rattle.field.specs.Field.{copies}
-use Rattle.promises.specs.Demand3.{EndsField, Converted, AlarmsAgree, NoneCarried, Begins, Premises}
+use Rattle.promises.specs.Demand3.{EndsField, Conditional, Converted, AlarmsAgree, NoneCarried, Begins, Premises, LeftToTicks}
 use Rattle.promises.specs.Runs.{State, Event, run, ticksOf, Together}
 pub mod Walk
 pub mod Stranger
@@ -22,6 +23,7 @@ pub mod Owner
 pub mod Keys
 pub mod Tags
 pub mod Proof
+pub mod Mission
 
 -- ---- (i) all premises can be met, while a stranger tries every command
 
@@ -91,3 +93,36 @@ pub record AlarmsNeeded : Type 0 where
   pub fields : NoneCarried s t E F
   pub disagree : Together AlarmsAgree s E t F → ⊥
   pub differ : run s E .line ≢ run t F .line
+
+-- ---- (iv) all premises can be met in a mission, with a Conditional Search that both tags join
+
+-- the slot is the last bit of a ROM command byte ECh, and an alarm flag is set
+abbrev pub Joins : State → Bool → Type 0
+Joins u bit = Conditional (u .tag .exchange) bit × (alarmed (u .image) ≡ true)
+
+pub record MissionMet : Type 0 where
+  pub s : State
+  pub t : State
+  pub E : List Event
+  pub F : List Event
+  pub premises : Premises s t E F
+  pub running-s : mip (s .image) ≡ true
+  pub running-t : mip (t .image) ≡ true
+  -- the tags differ in both passwords, the runs in readings
+  pub read : readPassword (s .image) ≢ readPassword (t .image)
+  pub full : fullPassword (s .image) ≢ fullPassword (t .image)
+  pub readings : ticksOf E ≢ ticksOf F
+  pub joined-s : Sometime Joins s E
+  pub joined-t : Sometime Joins t F
+
+-- ---- (v) premise 4 alone fails, as in (ii), and a tag does not end as the ticks alone would have left it
+
+pub record SpoilsWithPassword : Type 0 where
+  pub s : State
+  pub t : State
+  pub E : List Event
+  pub F : List Event
+  pub begins : Begins s t E F
+  pub alarms : Together AlarmsAgree s E t F
+  pub carried : NoneCarried s t E F → ⊥
+  pub spoilt : LeftToTicks s E → ⊥

@@ -32,6 +32,10 @@ controlByte Control.Start = 0xCC
 controlByte Control.Stop = 0x33
 controlByte Control.Convert = 0x55
 
+-- the slots of the command: its byte, the eight password bytes, and a last byte
+abbrev pub controlSlots : Control → ℕ → ℕ → List Bool
+controlSlots control field byte = (bitsOf 8 (controlByte control) ++ bitsOf 64 field) ++ bitsOf 8 byte
+
 -- the bus after the command byte
 abbrev pub controlBus : Control → Bus
 controlBus control = overAt (crc16Byte 0 (controlByte control)) 0

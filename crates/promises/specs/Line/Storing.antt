@@ -1,12 +1,13 @@
--- What Write Scratchpad wrote, Read Scratchpad shows; with a password that may, Copy stores exactly that through the tables and
--- sends 0,1,0,1 on; Read Memory gives it back. With one that may not, with another address or E/S than the held ones, and after data
--- that stops short of the page's end or has a broken byte, Copy stores nothing and the line is the master's. (Document 01, "Memory
--- commands".) A reached tag's scratchpad has 32 bytes (`reached-pad`). Assumes nothing.
+-- What Write Scratchpad wrote, Read Scratchpad shows; with a password that passes, Copy stores exactly that through the tables and
+-- sends 0,1,0,1 on; Read Memory gives it back, registers as document 01's own tables say (`Back`). With one that does not, with another
+-- address or E/S than the held ones, and after data that stops short of the page's end or has a broken byte, Copy stores nothing and
+-- the line is the master's. (Document 01, "Memory commands".) A reached tag's scratchpad has 32 bytes (`reached-pad`), and its TA 16
+-- bits (`reached-ta`). Assumes nothing.
 use mathlib.Core.Path.{_≡_, refl, ap, _∙_}
 use mathlib.Core.Bool.{Bool, true, false, and-false}
 use mathlib.Core.List.{List, [], _∷_, _++_}
-use mathlib.Core.Logic.{_⊎_, inl, inr, ⊎-elim}
-use Prim.Native.Nat.{ℕ, _+_, _-_, _*_, _%_, _^_, _≤_, _<_}
+use mathlib.Core.Logic.{⊎-elim}
+use Prim.Native.Nat.{ℕ, _+_, _-_, _*_, _%_, _^_, _<_}
 use native.Mathlib.Omega.{arith}
 use lib.Dec.{eqb}
 use lib.ListN.{length, getD}
@@ -16,11 +17,11 @@ use Rattle.dump.specs.Lines.{bytesFrom}
 use Rattle.exchange.specs.Runs.{commanding, Way, wayMark}
 use Rattle.exchange.specs.Runs.Laws.{quiet-then, run-quiet}
 use Rattle.exchange.specs.Runs.Commands.{zeroOnes, run-copied}
-use Rattle.image.specs.Answers.{mayRead, mayCopy}
-use Rattle.image.specs.Answers.Laws.{control-right, copy-user, copy-idle}
-use Rattle.image.specs.Registers.{mip, fullPassword}
+use Rattle.image.specs.Answers.{mayCopy}
+use Rattle.image.specs.Keeps.{Keeps}
 use Rattle.image.specs.Sent.{sentAt}
 use Rattle.image.specs.Stored.{storedRun, storedPage}
+use Rattle.image.specs.Stored.Laws.{keeps-storedRun}
 use Rattle.bus.specs.declared.Deed.{Deed}
 use Rattle.bus.specs.declared.Guarded.{Guarded}
 use Rattle.bus.specs.declared.Hearing.{Hearing}
@@ -30,12 +31,14 @@ use Rattle.bus.specs.Bus.{clearBus, goTo, statusByte}
 use Rattle.field.specs.Field.{copies, accepted}
 use Rattle.memory.specs.Runs.Scratchpad.{overAt, padBytes, read-scratchpad, writeHead, writtenTo, write-scratchpad, rest-of-page}
 use Rattle.tag.specs.Tag.{answerTo, performed, performedCounters}
-use Rattle.promises.specs.Runs.{State, run}
-use Rattle.promises.specs.Runs.Laws.{Sound, sound-run}
+use Rattle.promises.specs.Runs.{State, run, Reached}
+use Rattle.promises.specs.Runs.Laws.{Sound, sound-run, reached-sound}
 use Rattle.promises.specs.Line.Slots.{numberOf, session, greeting, session-quiet, session-then, slots-quiet, slots-lastly, slots-then, answersOf, withExchange, afterDeed, Kept, kept-by}
 use Rattle.promises.specs.Line.ReadRun.{readHead, readSlots, pageSent, sentWith}
 use Rattle.promises.specs.Line.Reading.{reads-memory}
-use Rattle.promises.specs.Line.Back.{plain-back}
+use Rattle.promises.specs.Line.Back.{bytesBack, bytes-back}
+use Rattle.promises.specs.Line.Pad.{reached-pad, reached-ta}
+use Rattle.promises.specs.Line.Passwords.{PassesFull, PassesRead, Copyable, Barred, read-may, copy-may, copy-may-not}
 use Rattle.promises.specs.Line.CopyRun.{copyHead, copyBus, copy-head, copy-field, copy-other, copies-right, Unlike, copies-unlike, status-lt}
 
 -- ---- Write Scratchpad, Read Scratchpad
@@ -77,17 +80,8 @@ reads-scratchpad s sound way long =
 abbrev pub copySlots : ℕ → ℕ → ℕ → ℕ → List Bool
 copySlots address status field n = slotsOf (copyHead address status) ++ (bitsOf 64 field ++ released (n * 2))
 
--- the full password may copy to user memory, and with no mission to registers and calibration
-pub right-copies : (image : List ℕ) (address : ℕ) → (address < 0x0200) ⊎ ((address < 0x0280) × (mip image ≡ false)) →
-    mayCopy image (fullPassword image) address ≡ true
-right-copies image address =
-    ⊎-elim
-    (λ user. copy-user image (fullPassword image) address user ∙ control-right image)
-    (λ idle. copy-idle image (fullPassword image) address (idle .0) (idle .1) ∙ control-right image)
-
--- Copy with the address and E/S as held, up to the page's end, and a password that may: the bytes are stored through the tables,
--- AA is set, and 0,1,0,1 follows
-pub copies-page : (s : State) (sound : Sound s) (way : Way) (field n : ℕ) → field < 2 ^ 64 →
+-- Copy with the address and E/S as held, up to the page's end, and a password that may
+copies-held : (s : State) (sound : Sound s) (way : Way) (field n : ℕ) → field < 2 ^ 64 →
     let held = s .tag .exchange .held in
     held .ta < 65536 → held .ending ≡ 0x1F → held .pf ≡ false → mayCopy (s .image) field (held .ta) ≡ true →
     let ran = run s (session s way (copySlots (held .ta) (statusByte held) field n)) in
@@ -96,7 +90,7 @@ pub copies-page : (s : State) (sound : Sound s) (way : Way) (field n : ℕ) → 
     × (ran .state .tag .counters ≡ s .tag .counters)
     × (ran .state .tag .exchange .held ≡ accepted held)
 unfolding answerTo performed performedCounters
-copies-page s sound way field n fits low full whole may =
+copies-held s sound way field n fits low full whole may =
     let held = s .tag .exchange .held in
     let number = numberOf s in
     let mark = wayMark way in
@@ -111,6 +105,20 @@ copies-page s sound way field n fits low full whole may =
     (copy-field (answersOf s) number mark held bus field fits (copies-right held full whole answer)))
     (slots-quiet done (released (n * 2)) (run-copied (answersOf done) number mark (accepted held) bus n))))
     (refl, refl, refl, refl)
+
+-- Copy with the address and E/S as held, up to the page's end, to an address that may be written now and with a password that passes:
+-- the bytes are stored through the tables, AA is set, and 0,1,0,1 follows
+pub copies-page : {s : State} (reached : Reached s) (way : Way) (field n : ℕ) → field < 2 ^ 64 →
+    let held = s .tag .exchange .held in
+    held .ending ≡ 0x1F → held .pf ≡ false → Copyable (s .image) (held .ta) → PassesFull (s .image) field →
+    let ran = run s (session s way (copySlots (held .ta) (statusByte held) field n)) in
+    (ran .line ≡ greeting s way ++ (slotsOf (copyHead (held .ta) (statusByte held)) ++ (bitsOf 64 field ++ zeroOnes n)))
+    × (ran .state .image ≡ storedPage (s .image) (held .pad) (held .ta))
+    × (ran .state .tag .counters ≡ s .tag .counters)
+    × (ran .state .tag .exchange .held ≡ accepted held)
+copies-page {s} reached way field n fits full whole there passes =
+    copies-held s (reached-sound reached) way field n fits (reached-ta reached) full whole
+    (copy-may (s .image) field (s .tag .exchange .held .ta) there passes)
 
 -- a Copy that is not done: nothing is stored, AA stays, and the line is the master's, whatever follows
 module _ (s : State) (sound : Sound s) (way : Way) (address status field : ℕ) (bits : List Bool) (fits : address < 65536) (small : status < 256) (whole : field < 2 ^ 64) where
@@ -129,10 +137,10 @@ module _ (s : State) (sound : Sound s) (way : Way) (address status field : ℕ) 
       (quiet-then (answersOf s) _ (slotsOf (copyHead address status)) _ (copy-head (answersOf s) number mark held address status fits small)
       (copy-other (answersOf s) number mark held (copyBus address status) field bits whole undone)))
 
-  -- with a password or an address that may not
-  pub copies-nothing : mayCopy (s .image) field address ≡ false → Undone
+  -- with a password that does not pass, or an address that may not be written now
+  pub copies-nothing : Barred (s .image) field address → Undone
   unfolding answerTo copies
-  copies-nothing shut = copies-undone (rw shut (simp and-false))
+  copies-nothing barred = copies-undone (rw (copy-may-not (s .image) field address barred) (simp and-false))
 
   -- with another address or E/S than the held ones, or data that does not reach the page's end or has a broken byte, whatever the
   -- password: "Done exactly if"
@@ -154,23 +162,39 @@ writes-and-copies s sound way again address field n bytes long fits end small wh
     let written = withExchange s (commanding (numberOf s) (wayMark way) held (overAt crc address)) in
     let wrote = writes-scratchpad s sound way address bytes long fits end small in
     let still : Sound written = rw wrote at (sound-run (session s way (writeSlots address bytes)) sound) in
-    let copied = copies-page written still again field n whole fits refl refl may in
+    let copied = copies-held written still again field n whole fits refl refl may in
     rw wrote
     (copied .0, copied .1 ∙ ap (storedRun (s .image) address) (rest-of-page (s .tag .exchange .held .pad) address bytes long), copied .2)
 
--- and a Read Memory there gives them back: user memory and calibration as they were written, with their CRC-16
-pub reads-back : (s copied : State) (sound : Sound copied) (way : Way) (address field : ℕ) (bytes : List ℕ) → length (s .image) ≡ 8832 →
-    copied .image ≡ storedRun (s .image) address bytes → address % 32 + length bytes ≡ 32 → (address < 0x0200) ⊎ ((0x0240 ≤ address) × (address < 0x0280)) →
-    field < 2 ^ 64 → mayRead (copied .image) field ≡ true →
-    run copied (session copied way (readSlots address field)) .line ≡
-    greeting copied way ++ (slotsOf (readHead address) ++ (bitsOf 64 field ++ slotsOf (sentWith address bytes)))
-unfolding pageSent
-reads-back s copied sound way address field bytes long same end lies fits may =
-    let code = copied .tag .code in
-    let count : 32 - address % 32 ≡ length bytes = omega arith in
-    let low : address + length bytes ≤ 0x0280 = ⊎-elim (λ user. omega arith) (λ calibration. omega arith) lies in
-    let apart : (address + length bytes ≤ 0x0200) ⊎ (0x0240 ≤ address) = ⊎-elim (λ user. inl (omega arith)) (λ calibration. inr (calibration .0)) lies in
-    let back : bytesFrom (sentAt (copied .image) code) address (32 - address % 32) ≡ bytes =
-    rw (same, count) (plain-back (s .image) code address bytes long low apart) in
-    reads-memory copied sound way address field fits (⊎-elim (λ user. omega arith) (λ calibration. omega arith) lies) may .0 ∙
-    ap (λ (b : List ℕ). greeting copied way ++ (slotsOf (readHead address) ++ (bitsOf 64 field ++ slotsOf (sentWith address b)))) back
+-- ---- and back
+
+-- Write Scratchpad, Copy and Read Memory, each after a reset, at an address that may be written, with passwords that pass: each byte
+-- comes back as the tables let it through, with its CRC-16, and no other byte of the image has changed
+module _ {s : State} (reached : Reached s) (way again third : Way) (address field key n : ℕ) (bytes : List ℕ) where
+  abbrev written : State
+  written = run s (session s way (writeSlots address bytes)) .state
+
+  abbrev copied : State
+  copied = run written (session written again (copySlots address 0x1F field n)) .state
+
+  pub reads-back : address % 32 + length bytes ≡ 32 → ((i : ℕ) → getD bytes i 0 < 256) → field < 2 ^ 64 → key < 2 ^ 64 →
+      Copyable (s .image) address → PassesFull (s .image) field → PassesRead (copied .image) key →
+      (run copied (session copied third (readSlots address key)) .line ≡
+      greeting copied third ++
+      (slotsOf (readHead address) ++ (bitsOf 64 key ++ slotsOf (sentWith address (bytesBack (s .image) (copied .tag .code) address bytes)))))
+      × Keeps ((address, length bytes) ∷ []) (s .image) (copied .image)
+  unfolding pageSent
+  reads-back end small fits reads there passes opens =
+      let sound = reached-sound reached in
+      let code = copied .tag .code in
+      let low : address < 0x0280 = ⊎-elim (λ user. omega arith) (λ idle. idle .0) there in
+      let stored = writes-and-copies s sound way again address field n bytes (reached-pad reached) (omega arith) end small fits
+      (copy-may (s .image) field address there passes) .1 in
+      let count : 32 - address % 32 ≡ length bytes = omega arith in
+      let back : bytesFrom (sentAt (copied .image) code) address (32 - address % 32) ≡ bytesBack (s .image) code address bytes =
+      rw (stored, count) (bytes-back (s .image) code address bytes (sound .size) (omega arith)) in
+      let still = sound-run (session written again (copySlots address 0x1F field n)) (sound-run (session s way (writeSlots address bytes)) sound) in (
+        reads-memory copied still third address key reads (omega arith) (read-may (copied .image) key opens) .0
+            ∙ ap (λ (b : List ℕ). greeting copied third ++ (slotsOf (readHead address) ++ (bitsOf 64 key ++ slotsOf (sentWith address b)))) back,
+        rw stored (keeps-storedRun (s .image) address bytes),
+      )

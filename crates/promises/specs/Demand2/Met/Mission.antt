@@ -27,7 +27,7 @@ use Rattle.promises.specs.Demand2.Met.Ticks.{ticks-spare, ticks-all, ent
 use Rattle.promises.specs.Demand3.Needed.Owner.{skipping, Owned, told, told-owned, stored, stored-owned, clearedBy, cleared-owned}
 use Rattle.promises.specs.Demand3.Needed.Tags.{number, number-good, fresh, fresh-off, fresh-idle, made, made-owned}
 use Rattle.promises.specs.History
-use Rattle.promises.specs.Line.Controlling.{controlSlots}
+use Rattle.promises.specs.Line.ControlRun.{controlSlots}
 use Rattle.promises.specs.Line.ControlRun.{controlByte}
 use Rattle.promises.specs.Line.Storing.{writeSlots, copySlots}
 use Rattle.promises.specs.Runs.{State, Event, leaves, after, Ran, run}

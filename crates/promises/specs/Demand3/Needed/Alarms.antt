@@ -17,9 +17,9 @@ use Rattle.select.specs.declared.Select.{Select}
 use Rattle.select.specs.Runs as runs
 use Rattle.select.specs.Select.{slotOf, isSelected}
 use Rattle.tag.specs.Tag.{answerTo}
-use Rattle.promises.specs.Demand3.{NoPassword, EndsField}
+use Rattle.promises.specs.Demand3.{NoPassword, EndsField, AlarmsAgree}
 use Rattle.promises.specs.Line.Slots.{withExchange, answersOf, run-slots, slots-quiet}
-use Rattle.promises.specs.Runs.{State, Event, after, Ran, run, Always, OnSlots}
+use Rattle.promises.specs.Runs.{State, Event, after, Ran, run, Always, Together, OnSlots}
 use Rattle.promises.specs.Runs.Laws.{Sound, sound-after, always-map, on-slots}
 
 -- ECh, and two slots with the line released
@@ -44,7 +44,7 @@ choosingAt u select =
     withExchange u (record { number = x .number; select = select; held = x .held; bus = x .bus })
 
 -- they are select's own
-choosing-run : (u : State) (bits : List Bool) → Sound u → Choosing u bits →
+pub choosing-run : (u : State) (bits : List Bool) → Sound u → Choosing u bits →
     let ran = runs.run (u .tag .exchange .select) (u .tag .exchange .number) (alarmed (u .image)) bits in
     run u (map Event.slot bits) ≡ record { line = ran .line; state = choosingAt u (ran .select) }
 choosing-run u bits sound still =
@@ -85,3 +85,20 @@ choosing-carries-none i j u bits sound still =
     none : (image : List ℕ) (v : State) (bit : Bool) → isSelected (v .tag .exchange .select) ≡ false → (field : ℕ)
         → EndsField (v .tag .exchange) bit field → (field ≢ readPassword image) × (field ≢ fullPassword image)
     none image v bit unchosen field ends = absurd (true≢false (sym (ends .chosen) ∙ unchosen))
+
+-- ---- the alarms agree
+
+-- of two tags that both have an alarm flag set, or both none, as long as they are being chosen
+pub choosing-agree : (u v : State) (bits : List Bool) → Sound u → Sound v → Choosing u bits → Choosing v bits → alarmed (u .image) ≡ alarmed (v .image) →
+    Together AlarmsAgree u (map Event.slot bits) v (map Event.slot bits)
+unfolding Together runs.stillChoosing
+choosing-agree u v [] sound-u sound-v still-u still-v agree = tt
+choosing-agree u v (bit ∷ bits) sound-u sound-v still-u still-v agree =
+    let both-u = and-eq-true-iff (not (isSelected (u .tag .exchange .select))) _ .0 still-u in
+    let both-v = and-eq-true-iff (not (isSelected (v .tag .exchange .select))) _ .0 still-v in
+    let next-u = choosing-after u bit sound-u (not-true (isSelected (u .tag .exchange .select)) (both-u .0)) in
+    let next-v = choosing-after v bit sound-v (not-true (isSelected (v .tag .exchange .select)) (both-v .0)) in (
+      λ conditional. agree,
+      choosing-agree (after u (Event.slot bit)) (after v (Event.slot bit)) bits (sound-after (Event.slot bit) sound-u) (sound-after (Event.slot bit) sound-v)
+          (rw next-u (both-u .1)) (rw next-v (both-v .1)) (rw (next-u, next-v) agree),
+    )

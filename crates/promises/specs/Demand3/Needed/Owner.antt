@@ -1,33 +1,36 @@
--- What an owner does to a tag that checks no passwords yet, each command after a reset and Skip: he stores by Write Scratchpad
--- and Copy, and clears; then a Write Scratchpad from 0000h on and a reset leave the tag waiting, with a known exchange.
+-- What an owner does to a tag, each command after a reset and Skip: while it checks no passwords he stores by Write Scratchpad and
+-- Copy, and clears; with a password that may he starts a mission; then a Write Scratchpad from 0000h on and a reset leave the tag waiting, with a known exchange.
 -- Assumes nothing.
 use mathlib.Core.Path.{_≡_, refl, ap, _∙_}
 use mathlib.Core.Bool.{Bool, true, false}
 use mathlib.Core.List.{List, _∷_, _++_, map}
-use Prim.Native.Nat.{ℕ, _+_, _%_, _<_}
+use Prim.Native.Nat.{ℕ, _+_, _%_, _^_, _<_}
 use native.Mathlib.Omega.{arith}
 use lib.ListN.{length}
 use Rattle.bits.specs.Bits.{bitsOf}
 use Rattle.bits.specs.Bytes.{Bytes}
 use Rattle.exchange.specs.declared.Exchange.{Exchange}
 use Rattle.exchange.specs.Exchange as exchange
-use Rattle.exchange.specs.Runs.{Way, waySlots, wayMark}
-use Rattle.image.specs.Answers.{checked, mayCopy}
+use Rattle.exchange.specs.Runs.{commanding, Way, waySlots, wayMark}
+use Rattle.image.specs.Answers.{checked, mayControl, mayCopy}
 use Rattle.image.specs.Answers.Laws.{control-open, copy-idle}
 use Rattle.image.specs.Registers.{mip}
 use Rattle.image.specs.Stored.{storedRun}
 use Rattle.bus.specs.declared.Control.{Control}
+use Rattle.bus.specs.declared.Deed.{Deed}
 use Rattle.bus.specs.declared.Hearing.{Hearing}
 use Rattle.bus.specs.declared.Stage.{Stage}
-use Rattle.bus.specs.Bus.{clearBus}
-use Rattle.mission.specs.Mission.{cleared}
+use Rattle.bus.specs.Bus.{clearBus, goTo}
+use Rattle.field.specs.Field.{guarded}
+use Rattle.mission.specs.Mission.{cleared, started, startedCounters}
 use Rattle.select.specs.declared.Choosing.the-variants.{Command}
 use Rattle.select.specs.Select.{keeps}
-use Rattle.tag.specs.Tag.{resetTag}
+use Rattle.tag.specs.Tag.{performed, performedCounters, resetTag}
 use Rattle.promises.specs.Demand3.{JustReset}
-use Rattle.promises.specs.Line.Controlling.{controlSlots, clears}
+use Rattle.promises.specs.Line.ControlRun.{controlSlots, controlBus}
+use Rattle.promises.specs.Line.Deeds.{controls}
 use Rattle.promises.specs.Line.Pad.{padOf, reached-pad}
-use Rattle.promises.specs.Line.Slots.{numberOf}
+use Rattle.promises.specs.Line.Slots.{numberOf, greeting, afterDeed}
 use Rattle.promises.specs.Line.Storing.{writeSlots, writes-scratchpad, copySlots, writes-and-copies}
 use Rattle.promises.specs.Runs.{State, Event, after, Ran, run, Reached}
 use Rattle.promises.specs.Runs.Laws.{Sound, reached-run, reached-sound, number-run, reset-happens}
@@ -50,6 +53,9 @@ stored s address bytes = told (told s (writeSlots address bytes)) (copySlots add
 
 abbrev pub clearedBy : State → State
 clearedBy s = told s (controlSlots Control.Clear 0 0xFF)
+
+abbrev pub startedBy : State → ℕ → State
+startedBy s field = told s (controlSlots Control.Start field 0xFF)
 
 abbrev pub ready : State → List ℕ → State
 ready s bytes = after (told s (writeSlots 0x0000 bytes)) Event.reset
@@ -112,10 +118,30 @@ module _ {number : ℕ} {image : List ℕ} {s : State} (o : Owned number image s
         ∙ ap (λ (i : List ℕ). storedRun i address bytes) (o .holds))
 
     pub cleared-owned : Owned number (cleared image) (clearedBy s)
-    unfolding waySlots
+    unfolding waySlots guarded performed
     cleared-owned =
+        let may : mayControl (s .image) 0 ≡ true = rw (o .holds) (control-open image 0 off) in
         told-owned (controlSlots Control.Clear 0 0xFF) o
-        (clears s sound Way.skip 0 (omega arith) (rw (o .holds) (control-open image 0 off)) .1 ∙ ap cleared (o .holds))
+        (ap (λ (r : Ran). r .state .image) (controls s sound Way.skip 0 (omega arith) may Control.Clear refl) ∙ ap cleared (o .holds))
+
+  -- with a password that may
+  module _ (field : ℕ) (fits : field < 2 ^ 64) (may : mayControl image field ≡ true) where
+    starting : run s (skipping (controlSlots Control.Start field 0xFF)) ≡
+        record {
+          line = greeting s Way.skip ++ controlSlots Control.Start field 0xFF;
+          state = afterDeed Deed.Start s (commanding (numberOf s) (wayMark Way.skip) (s .tag .exchange .held) (goTo (controlBus Control.Start) Stage.Over));
+        }
+    unfolding waySlots guarded
+    starting = controls s sound Way.skip field fits (rw (o .holds) may) Control.Start refl
+
+    pub started-owned : Owned number (started image) (startedBy s field)
+    unfolding performed
+    started-owned = told-owned (controlSlots Control.Start field 0xFF) o (ap (λ (r : Ran). r .state .image) starting ∙ ap started (o .holds))
+
+    pub started-counters : startedBy s field .tag .counters ≡ startedCounters image (s .tag .counters)
+    unfolding performedCounters
+    started-counters =
+        ap (λ (r : Ran). r .state .tag .counters) starting ∙ ap (λ (i : List ℕ). startedCounters i (s .tag .counters)) (o .holds)
 
   pub is-ready : (bytes : List ℕ) → length bytes ≡ 32 → Bytes bytes → Ready number image bytes (ready s bytes)
   unfolding after resetTag waySlots wayMark
@@ -128,3 +154,10 @@ module _ {number : ℕ} {image : List ℕ} {s : State} (o : Owned number image s
         holds = rw happens (written .holds);
         waits = rw happens (ap (λ (r : Ran). exchange.afterReset (r .state .tag .exchange)) wrote ∙ rw (o .numbered));
       }
+
+  pub ready-counters : (bytes : List ℕ) → length bytes ≡ 32 → Bytes bytes → ready s bytes .tag .counters ≡ s .tag .counters
+  unfolding after resetTag waySlots
+  ready-counters bytes whole small =
+      let written = written-owned 0x0000 bytes (omega arith) (omega arith) small in
+      let wrote = writes-scratchpad s sound Way.skip 0x0000 bytes long (omega arith) (omega arith) small in
+      rw (reset-happens (reached-sound (written .reached))) (ap (λ (r : Ran). r .state .tag .counters) wrote)

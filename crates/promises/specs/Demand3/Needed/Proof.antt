@@ -1,4 +1,4 @@
--- The three statements of Needed, each by the two tags of Tags. Assumes nothing.
+-- Statements (i), (ii), (iii) and (v) of Needed, each by the two tags of Tags. Assumes nothing.
 use mathlib.Core.Path.{_≡_, refl, sym, ap, _∙_}
 use mathlib.Core.Bool.{Bool, true, false, false≢true, true≢false}
 use mathlib.Core.List.{List, [], _∷_, _++_, map, flatMap}
@@ -6,47 +6,44 @@ use mathlib.Core.Logic.{_≢_}
 use Prim.Native.Nat.{ℕ}
 use native.Mathlib.Omega.{arith}
 use borrow.Author.Tests.{eq-eqb}
+use lib.Dec.{T}
 use lib.ListN.{getD}
 use Rattle.bits.specs.Bits.{bitOf, bitsOf, shiftIn}
-use Rattle.exchange.specs.declared.Exchange.{Exchange}
 use Rattle.exchange.specs.Exchange.{asks, slotOf}
+use Rattle.exchange.specs.Runs.{Way, waySlots}
 use Rattle.image.specs.Answers.{checked, mayRead}
 use Rattle.image.specs.Answers.Laws.{read-refused, read-right}
 use Rattle.image.specs.Fields.{wordAt}
-use Rattle.image.specs.Registers.{readPassword, fullPassword}
+use Rattle.image.specs.Keeps.{free}
+use Rattle.image.specs.Registers.{eosc, readPassword, fullPassword}
 use Rattle.image.specs.Sent.Laws.{sent-user}
+use Rattle.bus.specs.declared.Control.{Control}
 use Rattle.select.specs.Runs as runs
 use Rattle.select.specs.Select as select
-use Rattle.promises.specs.Demand3.{Alike, NoPassword, AlarmsAgree, Begins, NoneCarried}
-use Rattle.promises.specs.Demand3.Needed.{PremisesMet, FieldsNeeded, AlarmsNeeded}
+use Rattle.promises.specs.Demand3.{Alike, NoPassword, AlarmsAgree, Begins, NoneCarried, spoiltRuns, LeftToTicks}
+use Rattle.promises.specs.Demand3.Needed.{PremisesMet, FieldsNeeded, AlarmsNeeded, SpoilsWithPassword}
 use Rattle.promises.specs.Demand3.Needed.Alarms.{search, Choosing, choosing-line, choosing-carries-none}
 use Rattle.promises.specs.Demand3.Needed.Fields.{reader, reader-differs, skipping-unconditional}
 use Rattle.promises.specs.Demand3.Needed.Keys.{none-of-keys}
 use Rattle.promises.specs.Demand3.Needed.Owner.{skipping, waiting}
-use Rattle.promises.specs.Demand3.Needed.Stranger.{wrong, stranger, alike-each, stranger-alike, stranger-harmless, stranger-tried}
-use Rattle.promises.specs.Demand3.Needed.Tags.{firstKeys, pad, number, Prepared, first, first-prepared, first-user, second, second-prepared, second-user}
+use Rattle.promises.specs.Demand3.Needed.Stranger.{wrong, stranger, alike-each, readings-differ, stranger-alike, stranger-harmless, stranger-tried}
+use Rattle.promises.specs.Demand3.Needed.Tags.{firstKeys, pad, number, Prepared, first, first-prepared, first-bor, first-user, second, second-prepared, second-user}
 use Rattle.promises.specs.Demand3.Needed.Walk.{harmless, asksHarmless, denied, harmlessAll, Unconditional, harmless-unconditional, NoneOf, denies-run, unconditional-agree, harmless-premises}
 use Rattle.promises.specs.Demand3.Proof.{demand3}
-use Rattle.promises.specs.Demand3.Reset.{reset-sound, begins-guarded}
+use Rattle.promises.specs.Demand3.Reset.{reset-reached, reset-sound, begins-guarded, begins-alike}
+use Rattle.promises.specs.Line.ControlRun.{controlSlots}
+use Rattle.promises.specs.Line.Controlling.{clears}
+use Rattle.promises.specs.Line.Passwords.{PassesFull}
 use Rattle.promises.specs.Line.ReadRun.{readSlots}
-use Rattle.promises.specs.Runs.{State, Event, after, readingOf, run, ticksOf, Always, Together}
+use Rattle.promises.specs.Runs.{State, Event, after, run, ticksOf, Always, Together}
 use Rattle.promises.specs.Runs.Laws.{always-map}
 
 -- ---- premises 1 to 3
 
 begins : (E F : List Event) → Together (λ u e v f. Alike e f) first E second F → Begins first second E F
 begins E F alike =
-    let same = first-prepared .waits ∙ sym (second-prepared .waits) in
-    record {
-      reset-s = first-prepared .reset;
-      reset-t = second-prepared .reset;
-      checked-s = first-prepared .keyed .control;
-      checked-t = second-prepared .keyed .control;
-      number = ap (λ (x : Exchange). x .number) same;
-      held = ap (λ (x : Exchange). x .held) same;
-      mark = ap (λ (x : Exchange). x .select .mark) same;
-      alike = alike;
-    }
+    begins-alike (first-prepared .reset) (second-prepared .reset) (first-prepared .keyed .control) (second-prepared .keyed .control)
+    (first-prepared .waits ∙ sym (second-prepared .waits)) alike
 
 alike-slots : (bits : List Bool) (s t : State) → Together (λ u e v f. Alike e f) s (map Event.slot bits) t (map Event.slot bits)
 alike-slots bits s t = alike-each Event.slot Event.slot Alike.slots s t bits
@@ -79,14 +76,9 @@ full-differs = rw (first-prepared .keyed .full) (none-of-keys (wordAt firstKeys 
 
 -- ---- (i)
 
--- the reading of the first tick
-abbrev firstReading : List Event → ℕ
-firstReading [] = 0
-firstReading (e ∷ es) = readingOf e
-
-readings-differ : ticksOf (stranger 672) ≢ ticksOf (stranger 1391)
+strangers-differ : ticksOf (stranger 672) ≢ ticksOf (stranger 1391)
 unfolding ticksOf bitsOf bitOf flatMap
-readings-differ e = let two : _≡_ {A = ℕ} 672 1391 = ap firstReading e in absurd (omega arith)
+strangers-differ = readings-differ (stranger 672) (stranger 1391) (omega arith)
 
 pub premises-met : PremisesMet
 premises-met =
@@ -104,7 +96,7 @@ premises-met =
       full = full-differs;
       memory = λ e. omega (arith, first-user 0x0000 (omega arith), second-user);
       flags = λ e. true≢false (sym (first-prepared .flags) ∙ e ∙ second-prepared .flags);
-      readings = readings-differ;
+      readings = strangers-differ;
       field = wrong;
       tried-s =
           stranger-tried number 672 pad first (first-prepared .reset) (first-prepared .waits)
@@ -207,4 +199,64 @@ alarms-needed =
       fields = fields;
       disagree = λ agree. searches-differ (demand3 first second searches searches (record { begins = begun; fields = fields; alarms = agree }) .line);
       differ = searches-differ;
+    }
+
+-- ---- (v)
+
+-- the first's full password
+abbrev owned : ℕ
+owned = 0x2222222222222222
+
+owned-passes : PassesFull (first .image) owned
+unfolding wordAt
+owned-passes on = sym (first-prepared .keyed .full)
+
+abbrev clearing : List Bool
+clearing = controlSlots Control.Clear owned 0xFF
+
+abbrev clearances : List Event
+clearances = skipping clearing
+
+clearances-alike : Together (λ u e v f. Alike e f) first clearances second clearances
+unfolding Together
+clearances-alike = (Alike.resets, alike-slots (bitsOf 8 0xCC ++ clearing) (after first Event.reset) (after second Event.reset))
+
+clearances-agree : Together AlarmsAgree first clearances second clearances
+clearances-agree =
+    let never = skipping-unconditional first clearing (reset-sound (first-prepared .reset)) skip-unconditional in
+    unconditional-agree first clearances second clearances never clearances-alike
+
+no-ticks : (bits : List Bool) → ticksOf (skipping bits) ≡ []
+unfolding ticksOf
+no-ticks bits = by (bitsOf 8 0xCC ++ bits)
+  where
+    by : (bits : List Bool) → ticksOf (map Event.slot bits) ≡ []
+    by [] = refl
+    by (bit ∷ bits) = by bits
+
+-- BOR is 0 after the Clear, and the ticks alone, none, would have left it 1
+clearances-spoil : LeftToTicks first clearances → ⊥
+unfolding waySlots run
+clearances-spoil left =
+    let clear = clears (reset-reached (first-prepared .reset)) Way.skip owned (omega arith) owned-passes (first-prepared .idle) in
+    let same = rw (no-ticks clearing) at (left .spoilt .bits 0x0214 7 (spared (eosc (first .image))) tt tt) in
+    true≢false (sym first-bor ∙ sym same ∙ clear .1 .bor)
+  where
+    spared : (b : Bool) → T (free (spoiltRuns b) 0x0214 1)
+    spared true = tt
+    spared false = tt
+
+pub spoils-with-password : SpoilsWithPassword
+spoils-with-password =
+    let begun = begins clearances clearances clearances-alike in
+    record {
+      s = first;
+      t = second;
+      E = clearances;
+      F = clearances;
+      begins = begun;
+      alarms = clearances-agree;
+      carried = λ none. clearances-spoil
+          (demand3 first second clearances clearances (record { begins = begun; fields = none; alarms = clearances-agree }) .left-s);
+      spoilt = clearances-spoil;
     }

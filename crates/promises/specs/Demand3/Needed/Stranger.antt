@@ -3,6 +3,7 @@
 use mathlib.Core.Path.{_≡_, refl, sym, ap, _∙_}
 use mathlib.Core.Bool.{Bool, true, false, and-eq-true-iff}
 use mathlib.Core.List.{List, [], _∷_, _++_, map, flatMap}
+use mathlib.Core.Logic.{_≢_}
 use Prim.Native.Nat.{ℕ, suc, _≤_}
 use lib.ListN.{take, drop}
 use Rattle.bits.specs.Bits.{bitOf, bitsOf, shiftIn, slotsOf}
@@ -23,7 +24,7 @@ use Rattle.promises.specs.Demand3.Needed.{Sometime, Offers, OffersCopy, 
 use Rattle.promises.specs.Demand3.Needed.Owner.{skipping, waiting}
 use Rattle.promises.specs.Demand3.Needed.Walk.{harmless, asksHarmless, denied, harmlessAll, deniedAll, NoneOf, Denies, denies-run}
 use Rattle.promises.specs.Demand3.Reset.{begins-guarded}
-use Rattle.promises.specs.Runs.{State, Event, after, run, Together}
+use Rattle.promises.specs.Runs.{State, Event, after, readingOf, run, ticksOf, Together}
 
 -- ---- his events
 
@@ -63,6 +64,14 @@ pub alike-each : {A : Type 0} (f g : A → Event) → ((x : A) → Alike (f x) (
 unfolding Together
 alike-each f g alike s t [] = tt
 alike-each f g alike s t (x ∷ xs) = (alike x, alike-each f g alike (after s (f x)) (after t (g x)) xs)
+
+-- runs whose first ticks have other readings
+abbrev firstReading : List Event → ℕ
+firstReading [] = 0
+firstReading (e ∷ es) = readingOf e
+
+pub readings-differ : (E F : List Event) → firstReading (ticksOf E) ≢ firstReading (ticksOf F) → ticksOf E ≢ ticksOf F
+readings-differ E F other same = other (ap firstReading same)
 
 pub stranger-alike : (p q : ℕ) → p ≤ 2047 → q ≤ 2047 → (s t : State) →
     Together (λ u e v f. Alike e f) s (stranger p) t (stranger q)

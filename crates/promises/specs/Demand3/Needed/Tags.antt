@@ -138,6 +138,11 @@ first-prepared =
     prepared first-ready (keys-stored fresh firstKeys (length-new 8832) refl (bytes-of firstKeys tt))
     (flag-kept 0x0215 1 first-keeps tt ∙ fresh-idle) (alarmed-kept first-keeps tt ∙ fresh-alarmed)
 
+-- BOR is set
+pub first-bor : flagAt (first .image) 0x0214 7 ≡ true
+unfolding flagAt bitOf
+first-bor = rw (first-ready .holds, first-keeps .bytes 0x0214 tt, fresh-flags)
+
 -- its user memory is all zeros
 pub first-user : (k : ℕ) → k < 0x0200 → getD (first .image) k 0 ≡ 0
 first-user k low =

@@ -1,0 +1,209 @@
+-- What ticks do to the registers, said by document 01's addresses and bits ("A mission"): the clock's second; in a mission the delay, and
+-- at a conversion time what becomes of device samples, latest reading, THF and TLF, mission samples and WFTA. Which ticks are conversion
+-- times is said by `History`; stamp and log are what a listing shows (Demand2). Assumes nothing.
+use mathlib.Core.Path.{_≡_, refl, ap, _∙_}
+use mathlib.Core.Bool.{Bool, true, false, not, _&&_, _||_, and-false}
+use mathlib.Core.List.{List, [], _∷_}
+use mathlib.Core.Logic.{_⊎_, ⊎-elim, dite}
+use Prim.Native.Nat.{ℕ, _+_, _-_, _*_, _/_, _%_, _≤_, _<_, min}
+use native.Mathlib.Decide.{decLe}
+use native.Mathlib.Omega.{arith}
+use borrow.Author.Tests.{lt-leb, le-leb}
+use lib.Dec.{leb}
+use lib.ListN.{length, getD}
+use Rattle.answer.specs.declared.Answer.{Answer}
+use Rattle.bits.specs.Choose.{if_then_else_, choice}
+use Rattle.calendar.specs.Calendar.{nextSecond}
+use Rattle.calendar.specs.declared.Clock.{Clock}
+use Rattle.image.specs.Fields.{wordAt, flagAt}
+use Rattle.image.specs.Leaves.{Leaves, leaves-then, leaves-wider}
+use Rattle.bus.specs.declared.Deed.{Deed}
+use Rattle.conversion.specs.Clock.{clockOf, clocked}
+use Rattle.conversion.specs.Clock.Laws.{clock-kept, leaves-clocked}
+use Rattle.conversion.specs.Conversion as conversion
+use Rattle.mission.specs.Mission
+use Rattle.conversion.specs.Conversion.Converts.{Converts}
+use Rattle.conversion.specs.Conversion.Frames.{leaves-converted}
+use Rattle.mission.specs.Mission.Frames.{leaves-missionTicked}
+use Rattle.mission.specs.Mission.Ticks.{clock-clocked, ticked-idle, ticked-due, converts-ticked}
+use Rattle.mission.specs.declared.Counters.{Counters}
+use Rattle.tag.specs.Tag.{newTag, performedCounters, slotted, resetTag, tickTag}
+use Rattle.tag.specs.Tag.Laws.{new-good, new-made}
+use Rattle.promises.specs.Demand2.AtStart.{settingsOf}
+use Rattle.promises.specs.Demand2.Course.{Solid, reached-solid, starts-after, tick-leaves}
+use Rattle.promises.specs.Demand2.Events.{Starts, missionTicks}
+use Rattle.promises.specs.Demand2.Holds.{Holds}
+use Rattle.promises.specs.Demand2.Going.{Going, holds-run}
+use Rattle.promises.specs.Demand2.Ticks.{due-of, ended-of, quiet}
+use Rattle.promises.specs.History
+use Rattle.promises.specs.History.Laws.{history-le}
+use Rattle.promises.specs.Runs.{State, Event, after, run, Reached, Always}
+use Rattle.promises.specs.Runs.Laws.{Sound, sound-after, slot-happens, reset-happens, tick-happens, tick-refused}
+
+-- ---- alarms
+
+-- "if enabled and the reading divided by 8, rounded down, is ≥ high": ETHA, bit 1 of 0210h, and 0209h
+abbrev pub highAlarm : List ℕ → ℕ → Bool
+highAlarm image reading = flagAt image 0x0210 1 && leb (getD image 0x0209 0) (reading / 8)
+
+-- "or ≤ low threshold": ETLA, bit 0 of 0210h, and 0208h
+abbrev pub lowAlarm : List ℕ → ℕ → Bool
+lowAlarm image reading = flagAt image 0x0210 0 && leb (reading / 8) (getD image 0x0208 0)
+
+-- "nothing is logged until a conversion alarms": SUTA, bit 5 of 0213h, and WFTA, bit 4 of 0215h
+abbrev pub waits : List ℕ → Bool
+waits image = flagAt image 0x0213 5 && flagAt image 0x0215 4
+
+-- ---- what becomes of the registers
+
+pub record Converted (reading : ℕ) (before after : List ℕ) : Type 0 where
+  -- "adds 1 to device samples"; "Device samples stays at FFFFFFh"
+  pub device : wordAt after 0x0223 3 ≡ min (wordAt before 0x0223 3 + 1) 0xFFFFFF
+  -- "stores the latest reading (low three bits 0 with TLFS 0)": "020Ch reading bits 2-0 in bits 7-5, 020Dh bits 10-3"
+  pub latest : wordAt after 0x020C 2 / 32 ≡ if flagAt before 0x0213 2 then reading else reading / 8 * 8
+  -- "and sets THF or TLF"
+  pub thf : flagAt after 0x0214 1 ≡ highAlarm before reading || flagAt before 0x0214 1
+  pub tlf : flagAt after 0x0214 0 ≡ lowAlarm before reading || flagAt before 0x0214 0
+  -- "each adds 1 to mission samples"; none while the tag waits
+  pub samples : wordAt after 0x0220 3 ≡ if waits before then wordAt before 0x0220 3 else wordAt before 0x0220 3 + 1
+  -- "until a conversion alarms. That one clears WFTA"
+  pub wfta : flagAt after 0x0215 4
+      ≡ if waits before && (highAlarm before reading || lowAlarm before reading) then false
+      else flagAt before 0x0215 4
+  -- beside these only the clock, the stamp and the log
+  pub rest : Leaves ((0x0200, 6) ∷ (0x020C, 2) ∷ (0x0219, 6) ∷ (0x0220, 3) ∷ (0x0223, 3) ∷ (640, 8192) ∷ [])
+      ((0x0214, 0) ∷ (0x0214, 1) ∷ (0x0215, 4) ∷ []) before after
+
+-- from what the mission's laws say of it
+converted-by : {before after : List ℕ} {clock : Clock} (reading : ℕ) → reading ≤ 2047 → Converts before clock reading after →
+    Leaves ((0x0200, 6) ∷ (0x020C, 2) ∷ (0x0219, 6) ∷ (0x0220, 3) ∷ (0x0223, 3) ∷ (640, 8192) ∷ [])
+    ((0x0214, 0) ∷ (0x0214, 1) ∷ (0x0215, 4) ∷ []) before after →
+    Converted reading before after
+unfolding conversion.resolved conversion.alarms conversion.alarmsHigh conversion.alarmsLow conversion.isHigh conversion.isLow conversion.waiting
+converted-by reading small made left =
+    let whole : reading % 2048 ≡ reading = omega arith in
+    record {
+      device = made .deviceSamples;
+      latest = rw whole at (made .latest);
+      thf = made .thf;
+      tlf = made .tlf;
+      samples = made .log .missionSamples;
+      wfta = made .log .wfta;
+      rest = left;
+    }
+
+-- ---- the last tick's reading, which a Forced Conversion takes
+
+-- of these events, after a tick with the reading `before`; a tick with a reading above 2047 is refused
+unfoldable pub lastReading : ℕ → List Event → ℕ
+lastReading before [] = before
+lastReading before (Event.slot bit ∷ es) = lastReading before es
+lastReading before (Event.reset ∷ es) = lastReading before es
+lastReading before (Event.tick reading ∷ es) = lastReading (if leb reading 2047 then reading else before) es
+
+-- "0 before any"
+pub reads-none : (image : List ℕ) (number code : ℕ) → newTag image number code .answered .answer ≡ Answer.Accepted →
+    newTag image number code .answered .tag .counters .reading ≡ 0
+reads-none image number code e =
+    let good = new-good image number code e in
+    rw (new-made image number code (good .0) (good .1) (good .2))
+
+-- no slot's deed changes it
+reading-performed : (deed : Deed) (c : Counters) (image : List ℕ) → performedCounters deed c image .reading ≡ c .reading
+unfolding performedCounters Mission.startedCounters
+reading-performed Deed.Start c image = choice (λ (k : Counters). k .reading ≡ c .reading) (Mission.mayStart image) refl refl
+reading-performed Deed.Nothing c image = refl
+reading-performed Deed.Store c image = refl
+reading-performed Deed.Clear c image = refl
+reading-performed Deed.Stop c image = refl
+reading-performed Deed.Convert c image = refl
+
+-- "the last tick's reading", mission or not
+pub reads-last : {s : State} → Sound s → (events : List Event) →
+    run s events .state .tag .counters .reading ≡ lastReading (s .tag .counters .reading) events
+unfolding run lastReading after slotted resetTag tickTag Mission.tickedCounters
+reads-last sound [] = refl
+reads-last {s} sound (Event.slot bit ∷ es) =
+    reads-last (sound-after (Event.slot bit) sound) es
+    ∙ ap (λ (n : ℕ). lastReading n es) (rw (slot-happens sound bit) (reading-performed _ (s .tag .counters) (s .image)))
+reads-last {s} sound (Event.reset ∷ es) =
+    reads-last (sound-after Event.reset sound) es ∙ ap (λ (n : ℕ). lastReading n es) (rw (reset-happens sound))
+reads-last {s} sound (Event.tick reading ∷ es) =
+    reads-last (sound-after (Event.tick reading) sound) es
+    ∙ ap (λ (n : ℕ). lastReading n es)
+    (dite (decLe reading 2047) (λ small. rw (tick-happens sound reading small, le-leb reading 2047 small))
+    (λ high. rw (tick-refused sound reading (omega arith), lt-leb reading 2047 (omega arith))))
+
+-- ---- any tick
+
+module _ {s : State} (reached : Reached s) (reading : ℕ) (small : reading ≤ 2047) where
+  -- "Each tick first advances the clock if EOSC is 1": bit 0 of 0212h
+  pub ticks-clock : clockOf (after s (Event.tick reading) .image)
+      ≡ if flagAt (s .image) 0x0212 0 then nextSecond (clockOf (s .image)) else clockOf (s .image)
+  unfolding Mission.ticked
+  ticks-clock =
+      rw (tick-leaves (reached-solid reached) reading small)
+      (clock-kept (leaves-missionTicked (clocked (s .image)) (s .tag .counters) reading .keeps) tt
+      ∙ clock-clocked (s .image) (omega (arith, reached-solid reached .whole .size)))
+
+  -- "Then, in a mission": with none, MIP (bit 1 of 0215h) 0, a tick does nothing else
+  pub ticks-idle : flagAt (s .image) 0x0215 1 ≡ false → Leaves ((0x0200, 6) ∷ []) [] (s .image) (after s (Event.tick reading) .image)
+  ticks-idle idle =
+      rw (tick-leaves (reached-solid reached) reading small, ticked-idle (s .image) (s .tag .counters) reading idle)
+      (leaves-clocked (s .image))
+
+-- ---- a tick of a mission
+
+-- e is the slot in which Start was done; then come these events, none of which writes a register, clears or stops; and then a tick
+module _ {s : State} (e : Event) (events : List Event) (reached : Reached s) (starts : Starts s e) (going : Always Going (after s e) events) where
+  abbrev begun : State
+  begun = after s e
+
+  abbrev there : State
+  there = run begun events .state
+
+  abbrev readings : List ℕ
+  readings = missionTicks begun events
+
+  holding : Solid there × Holds (begun .image) readings (there .image) (there .tag .counters)
+  holding =
+      let began = starts-after e (reached-solid reached) starts in
+      holds-run {readings = []} events (began .solid) (began .holds) going
+
+  -- "the delay falls by one each 60 ticks from Start": 0216h, 3 bytes
+  pub mission-delay : wordAt (there .image) 0x0216 3 ≡ wordAt (begun .image) 0x0216 3 - length readings / 60
+  mission-delay = holding .1 .running .time .left
+
+  -- the next tick
+  module _ (reading : ℕ) (small : reading ≤ 2047) where
+    -- at a conversion time, while conversions have not ended
+    pub mission-converts : History.isTime (settingsOf (begun .image)) (length readings + 1) ≡ true →
+        length (History.history (settingsOf (begun .image)) readings) < History.most (settingsOf (begun .image)) →
+        Converted reading (there .image) (after there (Event.tick reading) .image)
+    mission-converts time more =
+        let listed = holding .1 .listed in
+        let running = holding .1 .running in
+        let due = due-of listed running ∙ time in
+        let most = History.most (settingsOf (begun .image)) in
+        let ended = ended-of listed running (history-le (settingsOf (begun .image)) readings) ∙ lt-leb most _ more in
+        let image = there .image in
+        let counters = there .tag .counters in
+        rw (tick-leaves (holding .0) reading small)
+        (converted-by reading small (converts-ticked image counters reading (listed .whole) due ended)
+        (rw (ticked-due image counters reading due)
+        (leaves-then (leaves-wider tt (leaves-clocked image)) (leaves-wider tt (leaves-converted _ reading)))))
+
+    -- at any other, and when conversions have ended, only the clock and the delay move
+    pub mission-rests :
+        (History.isTime (settingsOf (begun .image)) (length readings + 1) ≡ false)
+        ⊎ (History.most (settingsOf (begun .image)) ≤ length (History.history (settingsOf (begun .image)) readings)) →
+        Leaves ((0x0200, 6) ∷ (0x0216, 3) ∷ []) [] (there .image) (after there (Event.tick reading) .image)
+    mission-rests none =
+        let listed = holding .1 .listed in
+        let running = holding .1 .running in
+        let most = History.most (settingsOf (begun .image)) in
+        let ended = ended-of listed running (history-le (settingsOf (begun .image)) readings) in
+        let idle : (Mission.due (there .image) (there .tag .counters) && not (conversion.ended (there .image))) ≡ false =
+        ⊎-elim (λ (untimely : History.isTime (settingsOf (begun .image)) (length readings + 1) ≡ false). rw (due-of listed running ∙ untimely))
+        (λ full. rw (ended ∙ le-leb most _ full) (simp and-false)) none in
+        rw (tick-leaves (holding .0) reading small) (quiet listed running reading idle)
