@@ -69,17 +69,15 @@ use Rattle.tag.proofs.in_range.Reads as tag-in-range
 use Rattle.hex.proofs.pair_at.Reads as hex-pair-at
 use Rattle.hex.proofs.nibble.Reads as hex-nibble
 use Rattle.hex.proofs.put_hex.Reads as hex-put-hex
-use Rattle.dump.proofs.check.Reads as dump-check
-use Rattle.dump.proofs.check_line.Reads as dump-check-line
+use Rattle.dump.proofs.read.Reads as dump-read
 use Rattle.dump.proofs.page_of.Reads as dump-page-of
 use Rattle.dump.proofs.byte_at.Reads as dump-byte-at
-use Rattle.dump.proofs.data_at.Reads as dump-data-at
 use Rattle.dock.proofs.list_dump.Reads as dock-list-dump
 use Rattle.dock.proofs.seconds.Reads as dock-seconds
 use Rattle.dock.proofs.period.Reads as dock-period
 use Rattle.dock.proofs.temperature.Reads as dock-temperature
-use Rattle.dock.proofs.text.put_head.Reads as dock-text-put-head
-use Rattle.dock.proofs.text.put_entries.Reads as dock-text-put-entries
+use Rattle.text.proofs.put_head.Reads as text-put-head
+use Rattle.text.proofs.put_entries.Reads as text-put-entries
 
 -- A contract speaks of lifetimes, arguments, result and what is lent at exit. Two outcomes that it allows for the same arguments look
 -- the same, where `seen` is what a caller sees of an outcome: the result, and what stands behind each slice lent for writing.
@@ -319,20 +317,14 @@ hex-put-hex-sole k a r s e f p q = p ∙ sym q
 
 -- ---- dump
 
-dump-check-sole : Sole dump-check.Post (λ k r e. r)
-dump-check-sole k a r s e f p q = p ∙ sym q
-
-dump-check-line-sole : Sole dump-check-line.Post (λ k r e. r)
-dump-check-line-sole k a r s e f p q = p ∙ sym q
+dump-read-sole : Sole dump-read.Post (λ k r e. r)
+dump-read-sole k a r s e f p q = p ∙ sym q
 
 dump-page-of-sole : Sole dump-page-of.Post (λ k r e. r)
 dump-page-of-sole k a r s e f p q = p ∙ sym q
 
 dump-byte-at-sole : Sole dump-byte-at.Post (λ k r e. r)
 dump-byte-at-sole k a r s e f p q = p ∙ sym q
-
-dump-data-at-sole : Sole dump-data-at.Post (λ k r e. r)
-dump-data-at-sole k a r s e f p q = p ∙ sym q
 
 -- ---- dock
 
@@ -348,8 +340,10 @@ dock-period-sole k a r s e f p q = p ∙ sym q
 dock-temperature-sole : Sole dock-temperature.Post (λ k r e. r)
 dock-temperature-sole k a r s e f p q = p ∙ sym q
 
-dock-text-put-head-sole : Sole dock-text-put-head.Post (λ k r e. with r (now (e .0)))
-dock-text-put-head-sole k a r s e f p q = pair (p .0 ∙ sym (q .0)) (p .1 ∙ sym (q .1))
+-- ---- text
 
-dock-text-put-entries-sole : Sole dock-text-put-entries.Post (λ k r e. with r (now (e .0)))
-dock-text-put-entries-sole k a r s e f p q = pair (p .0 ∙ sym (q .0)) (p .1 ∙ sym (q .1))
+text-put-head-sole : Sole text-put-head.Post (λ k r e. with r (now (e .0)))
+text-put-head-sole k a r s e f p q = pair (p .0 ∙ sym (q .0)) (p .1 ∙ sym (q .1))
+
+text-put-entries-sole : Sole text-put-entries.Post (λ k r e. with r (now (e .0)))
+text-put-entries-sole k a r s e f p q = pair (p .0 ∙ sym (q .0)) (p .1 ∙ sym (q .1))
