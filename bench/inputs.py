@@ -2,7 +2,8 @@
 
 slots: a reader at a tag with passwords, over and over: Read ROM, a search, a write and read back of the scratchpad, pages
 of the log read with a wrong and a right password. seconds, minutes: ticks in a mission that converts every second (16-bit
-entries, rollover) or every minute. dump: a log of 8,192 entries, full and rolled over.
+entries, rollover) or every minute. dump: a log of 8,192 entries, full and rolled over. bench/count also takes ticks of which
+none but the first converts, and a dump of 4,096 entries.
 """
 
 import pathlib
@@ -29,6 +30,8 @@ FULL, READ = b"GROWER-1", b"INSPECT1"
 # Mission control: EHSS, entries of two bytes, rollover.
 SECONDS = {"clock_control": 0x03, "rate": 1, "control": 0xD5}
 MINUTES = {"clock_control": 0x01, "rate": 1, "control": 0xD5}
+# One conversion in 982,980 seconds.
+SELDOM = {"clock_control": 0x01, "rate": 16383, "control": 0xD5}
 # One byte an entry: all 8,192 places.
 BYTES = {"clock_control": 0x03, "rate": 1, "control": 0xD1}
 
@@ -64,14 +67,13 @@ def readings(rng):
         yield reading
 
 
-def events_of(master, before, repeated):
+def events_of(master, before, least):
     """A header, what was played before, and the rest of what was played, repeated until it is long enough."""
     body = bytes(master.triples[before:])
-    times = -(-LEAST_EVENTS * 3 // len(body)) if repeated else 1
-    return ROM + bytes((CODE,)) + bytes(master.triples[:before]) + body * times
+    return ROM + bytes((CODE,)) + bytes(master.triples[:before]) + body * -(-least * 3 // len(body))
 
 
-def slots():
+def slots(least=LEAST_EVENTS):
     master = new_master()
     set_up(master, SECONDS)
     before = len(master.triples)
@@ -86,23 +88,23 @@ def slots():
         master.read_memory(page, 32, b"SOMEBODY")
         master.skip()
         master.read_memory(page, 32, READ)
-    return events_of(master, before, True)
+    return events_of(master, before, least)
 
 
-def ticks(settings):
+def ticks(settings, count=LEAST_EVENTS):
     master = new_master()
     set_up(master, settings)
     wander = readings(random.Random(1))
     events = bytearray()
-    for _ in range(LEAST_EVENTS):
+    for _ in range(count):
         reading = next(wander)
         events += bytes((3, reading >> 8, reading & 0xFF))
     return ROM + bytes((CODE,)) + bytes(master.triples) + bytes(events)
 
 
-def full_dump():
+def full_dump(settings):
     master = new_master()
-    set_up(master, BYTES)
+    set_up(master, settings)
     wander = readings(random.Random(2))
     for _ in range(9000):
         master.tick(next(wander))
@@ -111,7 +113,12 @@ def full_dump():
 
 def write_all(files):
     """Writes every input to its file; returns the number of events of each that is played."""
-    made = {"slots": slots(), "seconds": ticks(SECONDS), "minutes": ticks(MINUTES), "dump": full_dump(), "empty": b""}
+    made = {"slots": slots(), "seconds": ticks(SECONDS), "minutes": ticks(MINUTES), "dump": full_dump(BYTES), "empty": b""}
     for name, path in files.items():
         path.write_bytes(made[name])
-    return {name: (len(made[name]) - len(ROM) - 1) // 3 for name in PLAYED}
+    return {name: events_in(made[name]) for name in PLAYED}
+
+
+def events_in(played):
+    """How many events an input of play has."""
+    return (len(played) - len(ROM) - 1) // 3

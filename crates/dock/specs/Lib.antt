@@ -2,5 +2,4 @@ pub mod Dumped
 pub mod Registers
 pub mod Entries
 pub mod Listing
-pub mod Text
 pub mod Points

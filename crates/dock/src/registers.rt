@@ -1,94 +1,94 @@
-// The registers of a dump by the sheet's names, each at its address.
+// The registers in a dump's memory by the sheet's names, each at its address.
 ghost use mathlib.Core.Path.{_≡_};
 ghost use Rattle.bits.specs.Bits.{bitOf};
-ghost use Rattle.dump.specs.Lines.{dumpedAt};
+ghost use Rattle.dump.specs.Lines.{memoryAt};
 ghost use Rattle.dock.specs.Registers.{rate, ehss, etl, tlfs, ro, suta, tlf, thf, memclr, stamp, missionSamples, code};
 
 // All sixteen bits.
-pub fn rate(dump: &[u8]) -> u16
-    ensures { λ r. ⌜ r ≡ rate (dumpedAt (now (dump .entry))) ⌝ }
+pub fn rate(memory: &[u8]) -> u16
+    ensures { λ r. ⌜ r ≡ rate (memoryAt (now (memory .entry))) ⌝ }
 {
-    dump::byte_at(dump, 0x0206) as u16 + 256 * dump::byte_at(dump, 0x0207) as u16
+    dump::byte_at(memory, 0x0206) as u16 + 256 * dump::byte_at(memory, 0x0207) as u16
 }
 
-pub fn ehss(dump: &[u8]) -> bool
-    ensures { λ r. ⌜ r ≡ ehss (dumpedAt (now (dump .entry))) ⌝ }
+pub fn ehss(memory: &[u8]) -> bool
+    ensures { λ r. ⌜ r ≡ ehss (memoryAt (now (memory .entry))) ⌝ }
 {
-    flag(dump, 0x0212, 1)
+    flag(memory, 0x0212, 1)
 }
 
-pub fn etl(dump: &[u8]) -> bool
-    ensures { λ r. ⌜ r ≡ etl (dumpedAt (now (dump .entry))) ⌝ }
+pub fn etl(memory: &[u8]) -> bool
+    ensures { λ r. ⌜ r ≡ etl (memoryAt (now (memory .entry))) ⌝ }
 {
-    flag(dump, 0x0213, 0)
+    flag(memory, 0x0213, 0)
 }
 
-pub fn tlfs(dump: &[u8]) -> bool
-    ensures { λ r. ⌜ r ≡ tlfs (dumpedAt (now (dump .entry))) ⌝ }
+pub fn tlfs(memory: &[u8]) -> bool
+    ensures { λ r. ⌜ r ≡ tlfs (memoryAt (now (memory .entry))) ⌝ }
 {
-    flag(dump, 0x0213, 2)
+    flag(memory, 0x0213, 2)
 }
 
-pub fn ro(dump: &[u8]) -> bool
-    ensures { λ r. ⌜ r ≡ ro (dumpedAt (now (dump .entry))) ⌝ }
+pub fn ro(memory: &[u8]) -> bool
+    ensures { λ r. ⌜ r ≡ ro (memoryAt (now (memory .entry))) ⌝ }
 {
-    flag(dump, 0x0213, 4)
+    flag(memory, 0x0213, 4)
 }
 
-pub fn suta(dump: &[u8]) -> bool
-    ensures { λ r. ⌜ r ≡ suta (dumpedAt (now (dump .entry))) ⌝ }
+pub fn suta(memory: &[u8]) -> bool
+    ensures { λ r. ⌜ r ≡ suta (memoryAt (now (memory .entry))) ⌝ }
 {
-    flag(dump, 0x0213, 5)
+    flag(memory, 0x0213, 5)
 }
 
-pub fn tlf(dump: &[u8]) -> bool
-    ensures { λ r. ⌜ r ≡ tlf (dumpedAt (now (dump .entry))) ⌝ }
+pub fn tlf(memory: &[u8]) -> bool
+    ensures { λ r. ⌜ r ≡ tlf (memoryAt (now (memory .entry))) ⌝ }
 {
-    flag(dump, 0x0214, 0)
+    flag(memory, 0x0214, 0)
 }
 
-pub fn thf(dump: &[u8]) -> bool
-    ensures { λ r. ⌜ r ≡ thf (dumpedAt (now (dump .entry))) ⌝ }
+pub fn thf(memory: &[u8]) -> bool
+    ensures { λ r. ⌜ r ≡ thf (memoryAt (now (memory .entry))) ⌝ }
 {
-    flag(dump, 0x0214, 1)
+    flag(memory, 0x0214, 1)
 }
 
-pub fn memclr(dump: &[u8]) -> bool
-    ensures { λ r. ⌜ r ≡ memclr (dumpedAt (now (dump .entry))) ⌝ }
+pub fn memclr(memory: &[u8]) -> bool
+    ensures { λ r. ⌜ r ≡ memclr (memoryAt (now (memory .entry))) ⌝ }
 {
-    flag(dump, 0x0215, 3)
+    flag(memory, 0x0215, 3)
 }
 
-pub fn stamp(dump: &[u8]) -> [u8; 6]
-    ensures { λ r. ⌜ r ≡ stamp (dumpedAt (now (dump .entry))) ⌝ }
+pub fn stamp(memory: &[u8]) -> [u8; 6]
+    ensures { λ r. ⌜ r ≡ stamp (memoryAt (now (memory .entry))) ⌝ }
 {
-    let seconds = dump::byte_at(dump, 0x0219);
-    let minutes = dump::byte_at(dump, 0x021A);
-    let hours = dump::byte_at(dump, 0x021B);
-    let date = dump::byte_at(dump, 0x021C);
-    let month = dump::byte_at(dump, 0x021D);
-    let year = dump::byte_at(dump, 0x021E);
+    let seconds = dump::byte_at(memory, 0x0219);
+    let minutes = dump::byte_at(memory, 0x021A);
+    let hours = dump::byte_at(memory, 0x021B);
+    let date = dump::byte_at(memory, 0x021C);
+    let month = dump::byte_at(memory, 0x021D);
+    let year = dump::byte_at(memory, 0x021E);
     [seconds, minutes, hours, date, month, year]
 }
 
-pub fn mission_samples(dump: &[u8]) -> u32
-    ensures { λ r. ⌜ r ≡ missionSamples (dumpedAt (now (dump .entry))) ⌝ }
+pub fn mission_samples(memory: &[u8]) -> u32
+    ensures { λ r. ⌜ r ≡ missionSamples (memoryAt (now (memory .entry))) ⌝ }
 {
-    let low = dump::byte_at(dump, 0x0220);
-    let middle = dump::byte_at(dump, 0x0221);
-    let high = dump::byte_at(dump, 0x0222);
+    let low = dump::byte_at(memory, 0x0220);
+    let middle = dump::byte_at(memory, 0x0221);
+    let high = dump::byte_at(memory, 0x0222);
     low as u32 + 256 * (middle as u32 + 256 * high as u32)
 }
 
-pub fn code(dump: &[u8]) -> u8
-    ensures { λ r. ⌜ r ≡ code (dumpedAt (now (dump .entry))) ⌝ }
+pub fn code(memory: &[u8]) -> u8
+    ensures { λ r. ⌜ r ≡ code (memoryAt (now (memory .entry))) ⌝ }
 {
-    dump::byte_at(dump, 0x0226)
+    dump::byte_at(memory, 0x0226)
 }
 
 // One bit of a register.
-fn flag(dump: &[u8], address: u16, at: u8) -> bool
-    ensures { λ r. ⌜ r ≡ bitOf (dumpedAt (now (dump .entry)) address) at ⌝ }
+fn flag(memory: &[u8], address: u16, at: u8) -> bool
+    ensures { λ r. ⌜ r ≡ bitOf (memoryAt (now (memory .entry)) address) at ⌝ }
 {
-    bits::bit(dump::byte_at(dump, address) as u64, at)
+    bits::bit(dump::byte_at(memory, address) as u64, at)
 }

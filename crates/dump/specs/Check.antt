@@ -1,17 +1,18 @@
 -- Which dumps are refused, and by which number (document 01, "Events and what they return": 7, 8 and 9, "dump length 7, then
 -- line by line 7, 9, 8"). Assumes nothing.
 use mathlib.Core.Bool.{Bool, _&&_, not}
-use mathlib.Core.List.{List}
+use mathlib.Core.List.{List, []}
 use Prim.Native.Nat.{ℕ, zero, suc}
 use lib.Dec.{eqb}
-use lib.ListN.{length, getD}
+use lib.ListN.{length, getD, replicate}
 use Rattle.answer.specs.Answer.{answerNumber}
 use Rattle.answer.specs.declared.Answer.{Answer}
 use Rattle.answer.specs.declared.Answer.the-variants.{Accepted, DumpForm, LinePage, LineCrc}
 use Rattle.bits.specs.Choose.{if_then_else_}
 use Rattle.crc.specs.Crc.{sentLow, sentHigh}
 use Rattle.hex.specs.Hex.{allDigits}
-use Rattle.dump.specs.Lines.{pageOf, lineAt, bytesIn, pageIn, crcIn}
+use Rattle.dump.specs.Lines.{pageOf, lineAt, bytesIn, pageIn, dataIn, crcIn, dataLines}
+use Rattle.dump.specs.declared.Dumped.{Dumped}
 pub mod Laws
 pub mod Written
 pub mod Unique
@@ -48,3 +49,19 @@ checkLines dump line (suc count) = firstRefusal (checkLine dump line) (checkLine
 -- "dump length 7, then line by line": "dump not 18,834 bytes"
 unfoldable pub checkOf : List ℕ → Answer
 checkOf dump = if not (eqb (length dump) 18834) then DumpForm else checkLines dump 0 258
+
+-- ---- what is read
+
+-- the data of a line's text, if it is accepted
+unfoldable pub readText : List ℕ → ℕ → List ℕ
+readText text page = if eqb (answerNumber (checkText text page)) 0 then dataIn (bytesIn text) else []
+
+-- a refusal has no bytes
+unfoldable pub refused : Answer → Dumped
+refused answer = record { answer = answer; memory = replicate 8256 0 }
+
+-- what a dump says: the data of all its lines, if it is accepted
+unfoldable pub readOf : List ℕ → Dumped
+readOf dump =
+    if eqb (answerNumber (checkOf dump)) 0 then record { answer = Accepted; memory = dataLines dump 0 258 }
+    else refused (checkOf dump)

@@ -10,6 +10,7 @@ use Rattle.crc.specs.Crc.{crc16Run, sentLow, sentHigh}
 use Rattle.hex.specs.Hex.{hexText, bytesAt}
 pub mod Laws
 pub mod Written
+pub mod Memory
 
 -- ---- from a memory to its dump
 
@@ -76,4 +77,18 @@ unfoldable pub dumpedAt : List ℕ → ℕ → ℕ
 dumpedAt dump address =
     if leb 0x0200 address && ltb address 0x0240 then dataOf dump ((address - 0x0200) / 32) (address % 32)
     else if leb 0x1000 address && ltb address 0x3000 then dataOf dump (2 + (address - 0x1000) / 32) (address % 32)
+    else 0
+
+-- ---- the data of all lines, and a byte among them
+
+-- the data of `count` lines from a line on, one after the other
+unfoldable pub dataLines : List ℕ → ℕ → ℕ → List ℕ
+dataLines dump line zero = []
+dataLines dump line (suc count) = dataIn (bytesIn (lineAt dump line)) ++ dataLines dump (suc line) count
+
+-- the byte of an address: the registers' 40h come first, then the log's; 0 where none is dumped
+unfoldable pub memoryAt : List ℕ → ℕ → ℕ
+memoryAt memory address =
+    if leb 0x0200 address && ltb address 0x0240 then getD memory (address - 0x0200) 0
+    else if leb 0x1000 address && ltb address 0x3000 then getD memory (0x40 + (address - 0x1000)) 0
     else 0

@@ -1,8 +1,9 @@
-// A dump as text: which of its lines are refused and why, and the byte that it has for an address. It is read where it lies.
+// A dump as text: which of its lines are refused and why, and its data bytes, read as the lines are judged.
 // Every function answers any slice and any number.
 ghost use mathlib.Core.Path.{_≡_};
-ghost use Rattle.dump.specs.Check.{checkOf, checkLine, checkText};
-ghost use Rattle.dump.specs.Lines.{pageOf, pageIn, crcIn, dataOf, dumpedAt};
+ghost use lib.Seq.{sets};
+ghost use Rattle.dump.specs.Check.{checkText, readText, readOf, refused};
+ghost use Rattle.dump.specs.Lines.{pageOf, pageIn, crcIn, dataIn, memoryAt};
 use answer::Answer;
 use hex::Pair;
 
@@ -14,36 +15,57 @@ const LINES: usize = 258;
 
 const LENGTH: usize = 18834;
 
-// Accepted, or the refusal: 7 for the length, then the first bad line's 7, 9 or 8.
-pub fn check(dump: &[u8]) -> Answer
-    ensures { λ r. ⌜ r ≡ checkOf (now (dump .entry)) ⌝ }
+// The data bytes of a line, and of all lines.
+const DATA: usize = 32;
+
+const MEMORY: usize = 8256;
+
+// What a dump says.
+pub struct Dumped {
+    pub answer: Answer,
+    // The data bytes, line by line; of a refused dump, zeros.
+    pub memory: [u8; MEMORY],
+}
+
+// Accepted and the dump's data bytes, or the refusal: 7 for the length, then the first bad line's 7, 9 or 8.
+pub fn read(dump: &[u8]) -> Dumped
+    ensures { λ r. ⌜ r ≡ readOf (now (dump .entry)) ⌝ }
 {
     if dump.len() != LENGTH {
-        return Answer::DumpForm;
+        return refuse(Answer::DumpForm);
     }
+    let mut memory = [0u8; MEMORY];
     for line in 0..LINES {
-        let answer = check_line(dump, line);
+        let start = LINE * line;
+        let answer = read_text(
+            &dump[start..start + LINE],
+            page_of(line),
+            &mut memory,
+            DATA * line,
+        );
         if answer::number(answer) != 0 {
-            return answer;
+            return refuse(answer);
         }
     }
-    Answer::Accepted
-}
-
-// The same of one line, counted from 0; a line that the dump has not whole is refused with 7.
-pub fn check_line(dump: &[u8], line: usize) -> Answer
-    ensures { λ r. ⌜ r ≡ checkLine (now (dump .entry)) line ⌝ }
-{
-    if dump.len() / LINE <= line {
-        return Answer::DumpForm;
+    Dumped {
+        answer: Answer::Accepted,
+        memory,
     }
-    let start = LINE * line;
-    check_text(&dump[start..start + LINE], page_of(line))
 }
 
-// One line's text, whose place asks this page: 7, then 9, then 8. Its digits are read once.
-fn check_text(text: &[u8], page: u16) -> Answer
+// A refusal has no bytes.
+fn refuse(answer: Answer) -> Dumped
+    ensures { λ r. ⌜ r ≡ refused answer ⌝ }
+{
+    let memory = [0u8; MEMORY];
+    Dumped { answer, memory }
+}
+
+// One line's text, whose place asks this page: 7, then 9, then 8. Its digits are read once; if it is accepted, its data bytes are
+// stored from `at` on.
+fn read_text(text: &[u8], page: u16, memory: &mut [u8], at: usize) -> Answer
     ensures { λ r. ⌜ r ≡ checkText (now (text .entry)) page ⌝ }
+    ensures { λ _. ⌜ now (memory .exit) ≡ sets (now (memory .entry)) at (readText (now (text .entry)) page) ⌝ }
 {
     if text.len() != LINE {
         return Answer::DumpForm;
@@ -69,7 +91,22 @@ fn check_text(text: &[u8], page: u16) -> Answer
     } else if bytes[35] != high {
         Answer::LineCrc
     } else {
+        put_data(memory, at, bytes);
         Answer::Accepted
+    }
+}
+
+// Stores the data bytes of a line from `at` on; what falls past the end is left out.
+fn put_data(memory: &mut [u8], at: usize, bytes: [u8; 36])
+    ensures { λ _. ⌜ now (memory .exit) ≡ sets (now (memory .entry)) at (dataIn bytes) ⌝ }
+{
+    if memory.len() <= at {
+        return;
+    }
+    let room = memory.len() - at;
+    let count = if room < DATA { room } else { DATA };
+    for i in 0..count {
+        memory[at + i] = bytes[2 + i];
     }
 }
 
@@ -102,27 +139,13 @@ pub fn page_of(line: usize) -> u16
     }
 }
 
-// The dumped byte of an address in 0200h-023Fh or 1000h-2FFFh; 0 for any other.
-pub fn byte_at(dump: &[u8], address: u16) -> u8
-    ensures { λ r. ⌜ r ≡ dumpedAt (now (dump .entry)) address ⌝ }
+// The byte that a dump's memory has for an address in 0200h-023Fh or 1000h-2FFFh; 0 for any other.
+pub fn byte_at(memory: &[u8], address: u16) -> u8
+    ensures { λ r. ⌜ r ≡ memoryAt (now (memory .entry)) address ⌝ }
 {
-    let at = (address % 32) as usize;
     match address {
-        0x0200..=0x023F => data_at(dump, ((address - 0x0200) / 32) as usize, at),
-        0x1000..=0x2FFF => data_at(dump, 2 + ((address - 0x1000) / 32) as usize, at),
+        0x0200..=0x023F => image::peek(memory, (address - 0x0200) as usize),
+        0x1000..=0x2FFF => image::peek(memory, 64 + (address - 0x1000) as usize),
         _ => 0,
     }
-}
-
-// Byte `at` of a line's 32 data bytes; 0 where there is none.
-pub fn data_at(dump: &[u8], line: usize, at: usize) -> u8
-    ensures { λ r. ⌜ r ≡ dataOf (now (dump .entry)) line at ⌝ }
-{
-    if 32 <= at || dump.len() / LINE < line {
-        return 0;
-    }
-    let Pair::Byte(byte) = hex::pair_at(dump, LINE * line + 4 + 2 * at) else {
-        return 0;
-    };
-    byte
 }

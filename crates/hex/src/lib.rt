@@ -2,7 +2,7 @@
 // Every function answers any input.
 ghost use mathlib.Core.Path.{_≡_};
 ghost use lib.Seq.{sets};
-ghost use Rattle.hex.specs.Hex.{hexDigit, hexOf, nibbleOf, pairAt};
+ghost use Rattle.hex.specs.Hex.{hexOf, nibbleOf, pairAt};
 
 // What two characters say.
 pub enum Pair {
@@ -23,12 +23,14 @@ pub fn pair_at(text: &[u8], at: usize) -> Pair
         return Pair::Bad;
     }
     let high = nibble(text[at]);
-    let low = nibble(text[next]);
-    if high < 16 && low < 16 {
-        Pair::Byte(high * 16 + low)
-    } else {
-        Pair::Bad
+    if 16 <= high {
+        return Pair::Bad;
     }
+    let low = nibble(text[next]);
+    if 16 <= low {
+        return Pair::Bad;
+    }
+    Pair::Byte(high * 16 + low)
 }
 
 // What a digit stands for; 16 for any other character.

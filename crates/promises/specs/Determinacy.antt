@@ -18,6 +18,7 @@ use Rattle.tag.proofs as tag
 use Rattle.hex.proofs as hex
 use Rattle.dump.proofs as dump
 use Rattle.dock.proofs as dock
+use Rattle.text.proofs as text
 
 -- A contract speaks of lifetimes, arguments, result and what is lent at exit. Two outcomes that it allows for the same arguments look
 -- the same, where `seen` is what a caller sees of an outcome: the result, and what stands behind each slice lent for writing.
@@ -118,18 +119,17 @@ pub record Determinacy : Type 2 where
   pub hex-nibble : Sole hex.nibble.Reads.Post (λ k r e. r)
   pub hex-put-hex : Sole hex.put_hex.Reads.Post (λ k r e. now (e .0))
   -- dump
-  pub dump-check : Sole dump.check.Reads.Post (λ k r e. r)
-  pub dump-check-line : Sole dump.check_line.Reads.Post (λ k r e. r)
+  pub dump-read : Sole dump.read.Reads.Post (λ k r e. r)
   pub dump-page-of : Sole dump.page_of.Reads.Post (λ k r e. r)
   pub dump-byte-at : Sole dump.byte_at.Reads.Post (λ k r e. r)
-  pub dump-data-at : Sole dump.data_at.Reads.Post (λ k r e. r)
   -- dock
   pub dock-list-dump : Sole dock.list_dump.Reads.Post (λ k r e. with r (now (e .1 .0)))
   pub dock-seconds : Sole dock.seconds.Reads.Post (λ k r e. r)
   pub dock-period : Sole dock.period.Reads.Post (λ k r e. r)
   pub dock-temperature : Sole dock.temperature.Reads.Post (λ k r e. r)
-  pub dock-text-put-head : Sole dock.text.put_head.Reads.Post (λ k r e. with r (now (e .0)))
-  pub dock-text-put-entries : Sole dock.text.put_entries.Reads.Post (λ k r e. with r (now (e .0)))
+  -- text
+  pub text-put-head : Sole text.put_head.Reads.Post (λ k r e. with r (now (e .0)))
+  pub text-put-entries : Sole text.put_entries.Reads.Post (λ k r e. with r (now (e .0)))
 
 -- ---- each contract is one equation, or a pair of them
 
@@ -212,15 +212,13 @@ determinacy =
       hex-pair-at = λ k a r s e f p q. p ∙ sym q;
       hex-nibble = λ k a r s e f p q. p ∙ sym q;
       hex-put-hex = λ k a r s e f p q. p ∙ sym q;
-      dump-check = λ k a r s e f p q. p ∙ sym q;
-      dump-check-line = λ k a r s e f p q. p ∙ sym q;
+      dump-read = λ k a r s e f p q. p ∙ sym q;
       dump-page-of = λ k a r s e f p q. p ∙ sym q;
       dump-byte-at = λ k a r s e f p q. p ∙ sym q;
-      dump-data-at = λ k a r s e f p q. p ∙ sym q;
       dock-list-dump = λ k a r s e f p q. pair (p .0 ∙ sym (q .0)) (p .1 ∙ sym (q .1));
       dock-seconds = λ k a r s e f p q. p ∙ sym q;
       dock-period = λ k a r s e f p q. p ∙ sym q;
       dock-temperature = λ k a r s e f p q. p ∙ sym q;
-      dock-text-put-head = λ k a r s e f p q. pair (p .0 ∙ sym (q .0)) (p .1 ∙ sym (q .1));
-      dock-text-put-entries = λ k a r s e f p q. pair (p .0 ∙ sym (q .0)) (p .1 ∙ sym (q .1));
+      text-put-head = λ k a r s e f p q. pair (p .0 ∙ sym (q .0)) (p .1 ∙ sym (q .1));
+      text-put-entries = λ k a r s e f p q. pair (p .0 ∙ sym (q .0)) (p .1 ∙ sym (q .1));
     }

@@ -1,35 +1,53 @@
 -- `dump::byte_at` meets its contract, by where the address lies: in the registers, in the log, or in neither. Assumes nothing.
-use mathlib.Core.Path.{sym, _∙_}
 use native.Mathlib.Omega.{arith}
-use Rattle.dump.specs.Lines.Laws.{dumped-register, dumped-log, dumped-below, dumped-between, dumped-above}
 use borrow.Author.Needs.{needs}
+use borrow.Author.Tests.{lt-ltb, le-ltb, le-leb, lt-leb}
+use Rattle.dump.specs.Lines.{memoryAt}
 use Rattle.dump.proofs.byte_at.Statement.{statement}
 use Rattle.dump.proofs.byte_at.Tie as tie
 
 returns : tie.Need-returns
+unfolding memoryAt
 returns c =
-    let a = c .before .before .before .before .args in
-    c .data-at .ensures ∙ sym (dumped-register (a .dump .now) (a .address) (omega arith) (omega arith))
+    let address = c .before .before .before .before .args .address in
+    simp (c .peek .ensures, le-leb 0x0200 address (omega arith), lt-ltb address 0x0240 (omega arith))
 
 returns-2 : tie.Need-returns-2
+unfolding memoryAt
 returns-2 c =
-    let a = c .before .before .before .before .before .before .args in
-    c .data-at2 .ensures ∙ sym (dumped-log (a .dump .now) (a .address) (omega arith) (omega arith))
+    let address = c .before .before .before .before .before .before .args .address in
+    simp (
+      c .peek2 .ensures,
+      le-leb 0x0200 address (omega arith),
+      le-ltb address 0x0240 (omega arith),
+      le-leb 0x1000 address (omega arith),
+      lt-ltb address 0x3000 (omega arith),
+    )
 
 returns-3 : tie.Need-returns-3
-returns-3 c = let a = c .before .before .args in sym (dumped-below (a .dump .now) (a .address) (omega arith))
+unfolding memoryAt
+returns-3 c =
+    let address = c .before .before .args .address in
+    simp (lt-leb 0x0200 address (omega arith), lt-leb 0x1000 address (omega arith))
 
 returns-4 : tie.Need-returns-4
+unfolding memoryAt
 returns-4 c =
-    let a = c .before .before .before .before .args in
-    sym (dumped-between (a .dump .now) (a .address) (omega arith) (omega arith))
+    let address = c .before .before .before .before .args .address in
+    simp (le-leb 0x0200 address (omega arith), le-ltb address 0x0240 (omega arith), lt-leb 0x1000 address (omega arith))
 
 returns-5 : tie.Need-returns-5
+unfolding memoryAt
 returns-5 c =
-    let a = c .before .before .before .before .before .args in
-    sym (dumped-above (a .dump .now) (a .address) (omega arith))
+    let address = c .before .before .before .before .before .args .address in
+    simp (
+      le-leb 0x0200 address (omega arith),
+      le-ltb address 0x0240 (omega arith),
+      le-leb 0x1000 address (omega arith),
+      le-ltb address 0x3000 (omega arith),
+    )
 
 pub byte-at-spec : {M : Type 1} → statement M
 byte-at-spec =
-    tie.close (tie.spec (search needs) (search needs) (search needs) (search needs) (search needs) (search needs) returns
+    tie.close (tie.spec (search needs) (search needs) (search needs) (search needs) (search needs) returns
     returns-2 returns-3 returns-4 returns-5)

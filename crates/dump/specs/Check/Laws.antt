@@ -1,19 +1,24 @@
 -- What each answer says of a line. Assumes nothing.
-use mathlib.Core.Path.{_≡_, refl}
+use mathlib.Core.Path.{_≡_, refl, sym}
 use mathlib.Core.Bool.{true, false, and-false}
-use mathlib.Core.List.{List}
-use Prim.Native.Nat.{ℕ, zero, suc, _+_, _-_, _*_, _/_, _≤_, _<_}
+use mathlib.Core.List.{List, []}
+use Prim.Native.Nat.{ℕ, zero, suc, _+_, _-_, _≤_, _<_}
 use native.Mathlib.Numerals.{add-one}
 use native.Mathlib.Omega.{arith}
-use borrow.Author.Tests.{eq-eqb, ne-eqb}
-use lib.ListN.{length, getD, take, drop, length-take, length-drop}
+use borrow.Author.Tests.{eq-eqb, ne-eqb, eqb-true}
+use lib.Dec.{eqb}
+use lib.ListN.{length, getD, length-replicate}
 use Rattle.answer.specs.Answer.{answerNumber}
+use Rattle.answer.specs.Answer.Laws.{accepted-is}
 use Rattle.answer.specs.declared.Answer.{Answer}
 use Rattle.answer.specs.declared.Answer.the-variants.{Accepted, DumpForm, LinePage, LineCrc}
+use Rattle.bits.specs.Choose.{either}
 use Rattle.crc.specs.Crc.{sentLow, sentHigh}
 use Rattle.hex.specs.Hex.{allDigits}
-use Rattle.dump.specs.Lines.{pageOf, lineAt, bytesIn, pageIn, crcIn}
-use Rattle.dump.specs.Check.{formed, crcRight, checkText, checkLine, firstRefusal, checkLines, checkOf}
+use Rattle.dump.specs.Lines.{bytesIn, pageIn, dataIn, crcIn, dumpedAt, dataLines, memoryAt}
+use Rattle.dump.specs.Lines.Memory.{length-data-lines, memory-dumped}
+use Rattle.dump.specs.Check.{formed, crcRight, checkText, checkLine, firstRefusal, checkLines, checkOf, readText, refused, readOf}
+use Rattle.dump.specs.declared.Dumped.{Dumped}
 
 -- ---- a line's form
 
@@ -60,14 +65,6 @@ module _ (text : List ℕ) (page : ℕ) {bytes : List ℕ} (read : bytesIn text 
     unfolding checkText
     check-accepted h = simp (whole, read, eq-eqb (pageIn bytes) page right, h)
 
--- a line that the dump has not whole
-pub check-short : (dump : List ℕ) (line : ℕ) → length dump / 73 ≤ line → checkLine dump line ≡ DumpForm
-unfolding checkLine lineAt
-check-short dump line h =
-    let rest = drop (73 * line) dump in
-    let short : length (take 73 rest) < 73 = rw (length-take 73 rest, length-drop (73 * line) dump) (omega arith) in
-    check-form (take 73 rest) (pageOf line) (formed-not-long (take 73 rest) (λ e. omega arith))
-
 -- ---- line by line
 
 pub first-refused : (a b : Answer) → (answerNumber a ≡ 0 → ⊥) → firstRefusal a b ≡ a
@@ -98,3 +95,41 @@ check-length dump h = rw (ne-eqb (length dump) 18834 h)
 pub check-lines : (dump : List ℕ) → length dump ≡ 18834 → checkOf dump ≡ checkLines dump 0 258
 unfolding checkOf
 check-lines dump h = rw (eq-eqb (length dump) 18834 h)
+
+-- ---- what is read
+
+module _ (text : List ℕ) (page : ℕ) where
+  pub text-refused : {a : Answer} → checkText text page ≡ a → eqb (answerNumber a) 0 ≡ false → readText text page ≡ []
+  unfolding readText
+  text-refused e refuses = rw (e, refuses)
+
+  pub text-accepted : checkText text page ≡ Accepted → readText text page ≡ dataIn (bytesIn text)
+  unfolding readText
+  text-accepted e = rw e
+
+module _ (dump : List ℕ) where
+  pub read-refused : (answerNumber (checkOf dump) ≡ 0 → ⊥) → readOf dump ≡ refused (checkOf dump)
+  unfolding readOf
+  read-refused h = rw (ne-eqb (answerNumber (checkOf dump)) 0 h)
+
+  pub read-accepted : answerNumber (checkOf dump) ≡ 0 → readOf dump ≡ record { answer = Accepted; memory = dataLines dump 0 258 }
+  unfolding readOf
+  read-accepted h = rw (eq-eqb (answerNumber (checkOf dump)) 0 h)
+
+  -- it tells the answer
+  pub answer-read : readOf dump .answer ≡ checkOf dump
+  unfolding readOf refused
+  answer-read =
+      either (λ (d : Dumped). d .answer ≡ checkOf dump) (eqb (answerNumber (checkOf dump)) 0)
+      (λ e. sym (accepted-is (checkOf dump) (eqb-true _ 0 e))) (λ e. refl)
+
+  -- and has its 8,256 bytes in any case
+  pub length-read : length (readOf dump .memory) ≡ 8256
+  unfolding readOf refused
+  length-read =
+      either (λ (d : Dumped). length (d .memory) ≡ 8256) (eqb (answerNumber (checkOf dump)) 0)
+      (λ e. length-data-lines dump 0 258) (λ e. length-replicate {A = ℕ} 8256 0)
+
+  -- those of an accepted one are the dumped ones
+  pub memory-read : answerNumber (checkOf dump) ≡ 0 → memoryAt (readOf dump .memory) ≡ dumpedAt dump
+  memory-read h = rw (read-accepted h) (memory-dumped dump)

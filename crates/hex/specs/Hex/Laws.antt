@@ -3,13 +3,12 @@ use mathlib.Core.Path.{_≡_, refl, sym, _∙_}
 use mathlib.Core.Bool.{Bool, true, false, and-eq-true-iff, and-false}
 use mathlib.Core.List.{List, [], _∷_}
 use Prim.Native.Nat.{ℕ, zero, suc, _+_, _-_, _*_, _/_, _%_, _≤_, _<_}
-use native.Mathlib.Nat.{mod-mod, add-assoc}
+use native.Mathlib.Nat.{mod-mod}
 use native.Mathlib.Decide.{decLt}
 use native.Mathlib.Omega.{arith}
 use borrow.Author.Tests.{lt-ltb, le-ltb, le-leb, lt-leb, ltb-true}
 use lib.Dec.{ltb, eqb, eqb→eq}
-use lib.ListN.{length, getD, take, drop, length-append, List·getD-eq-default}
-use lib.Seq.{getD-drop, getD-take}
+use lib.ListN.{length, getD, length-append, List·getD-eq-default}
 use Rattle.bits.specs.Choose.{if_then_else_}
 use Rattle.bits.specs.Each.{each-at}
 use Rattle.hex.specs.Hex.{hexDigit, hexOf, nibbleOf, pairOf, pairAt, isByte, byteOf}
@@ -113,17 +112,6 @@ pub pair-past : (text : List ℕ) (at : ℕ) → length text ≤ at + 1 → pair
 unfolding pairAt
 pair-past text at h =
     rw (List·getD-eq-default text 0 h) (pair-bad-low (getD text at 0) 0 (omega (arith, nibble-below 0 (omega arith))))
-
--- in a part of a text
-pub pair-drop : (k : ℕ) (text : List ℕ) (at : ℕ) → pairAt (drop k text) at ≡ pairAt text (k + at)
-unfolding pairAt
-pair-drop k text at = rw (getD-drop k text at 0, getD-drop k text (at + 1) 0, ← add-assoc k at 1)
-
-pub pair-take : (n : ℕ) (text : List ℕ) (at : ℕ) → at + 1 < n → pairAt (take n text) at ≡ pairAt text at
-unfolding pairAt
-pair-take n text at h =
-    let first : at < n = omega arith in
-    rw (getD-take n text at 0 first, getD-take n text (at + 1) 0 h)
 
 -- the two digits of a byte read again
 pub pair-hex : (b : ℕ) → b < 256 → pairOf (hexDigit (b / 16)) (hexDigit b) ≡ Byte b

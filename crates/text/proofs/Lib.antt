@@ -1,0 +1,2 @@
+-- Lemmas that belong to no one function.
+pub mod Signed
