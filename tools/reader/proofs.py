@@ -2,6 +2,14 @@
 
 from .words import date_of, period_words
 
+PROVED = (
+    "Every function of the program list that judges the dump and works out and writes the listing: which entries the log holds, "
+    "each one's seconds from the stamp and its temperature in sixteenths of a degree, for every dump. The build is taken for "
+    "proved because rt check or .ci/run made it and no source, definition or proof is newer; .ci/run proves all from nothing.")
+PLAYED = " So are the functions of the program play, the tag whose dump this is."
+TESTED = "That list prints the pieces of the listing one after the other: its function main is proved to be safe and to end."
+ASSUMED = "The contracts of the C functions that the programs call for input and output, and the compiler's back end."
+NOTHING = "Nothing on this page. A page made with proved builds says so here; .ci/run makes them."
 NOT_PROVED = (
     "The reader, which made this page: it took thresholds and period from the dump's registers, turned the stamp into dates and "
     "sixteenths into degrees, worked out the summary, drew the picture and set the table.")
@@ -13,33 +21,33 @@ NOT_SHOWN = (
 def warnings(source):
     """What must stand before everything else."""
     if source.disagreements:
-        yield (f"The session is not as recorded: {len(source.disagreements):,} of its bytes differ from what the tag sent, the first "
-               f"in {source.disagreements[0]}.")
+        yield (f"The session is not as recorded: {len(source.disagreements):,} of its bytes differ from what the tag sent; the "
+               f"first: {source.disagreements[0]}.")
     if source.kind == "session":
         yield "No real tag was read: the dump is that of a tag played by the program play, from a session."
     if not source.builds:
         yield "Made from a listing of unknown origin: nothing on this page rests on a proof."
-    elif not all(build.proved for build in source.builds):
+    elif not all_proved(source):
         yield "The programs used here are not a proved build: nothing on this page rests on a proof."
+
+
+def all_proved(source):
+    return source.builds and all(build.proved for build in source.builds)
 
 
 def rows(source):
     """Pairs of a name and words."""
-    if source.builds and all(build.proved for build in source.builds):
-        yield "Proved", (
-            "Every function of the program list that judges the dump and works out and writes the listing: which entries the log "
-            "holds, each one's seconds from the stamp and its temperature in sixteenths of a degree, for every dump. The build is "
-            "taken for proved because rt check or .ci/run made it and no source, definition or proof is newer; .ci/run proves all "
-            "from nothing.")
-        yield "Tested", "That list prints the pieces of the listing one after the other: its function main is proved to be safe and to end."
-        yield "Assumed", "The contracts of the C functions that the programs call for input and output, and the compiler's back end."
+    if all_proved(source):
+        yield "Proved", PROVED + (PLAYED if source.kind == "session" else "")
+        yield "Tested", TESTED
+        yield "Assumed", ASSUMED
     else:
-        yield "Proved", "Nothing on this page. A page made with proved builds says so here; .ci/run makes them."
+        yield "Proved", NOTHING
     yield "Not proved", NOT_PROVED
     yield "Not shown", NOT_SHOWN
 
 
-def mission_rows(registers, listing):
+def mission_rows(registers):
     """What a person asks of a mission; read out of the dump by the reader."""
     clock = date_of(registers.clock)
     yield "Sampling", f"{period_words(registers.period)}, {'0.0625' if registers.entry_bytes == 2 else '0.5'} °C an entry"

@@ -49,6 +49,12 @@ STYLE = """
     .signing div { border-top: 1px solid #444; padding-top: 3px; color: #444 }
   }
 """
+# Each sheet of paper says which file it is of; a browser that can't write into margins leaves it out.
+MARGINS = """
+  @page {{ margin-bottom: 18mm;
+    @bottom-left {{ content: "file {digest}"; font: 8px sans-serif; color: #666 }}
+    @bottom-right {{ content: "page " counter(page) " of " counter(pages); font: 8px sans-serif; color: #666 }} }}
+"""
 OPENING = """<!DOCTYPE html>
 <html lang="en">
 <head>
@@ -62,7 +68,8 @@ def html(source, view, note=None):
     """The whole page."""
     tag = f"tag {source.rom.hex().upper()}" if source.rom else f"a {DEVICES[source.listing.code]} tag"
     title = f"Temperatures of {tag}"
-    body = [f"{OPENING}<title>{escape(title)}</title>\n<style>{STYLE}{picture.STYLE}</style>\n</head>\n<body>\n<main>",
+    style = STYLE + MARGINS.format(digest=source.digest) + picture.STYLE
+    body = [f"{OPENING}<title>{escape(title)}</title>\n<style>{style}</style>\n</head>\n<body>\n<main>",
             f'<header><h1>{escape(title)}</h1><p class="sub">{escape(minus(view.extent(source.listing)))}</p></header>']
     body += [f'<p class="note">{escape(note)}</p>'] if note else []
     body += [f'<p class="warning">{escape(text)}</p>' for text in proofs.warnings(source)]
@@ -71,7 +78,7 @@ def html(source, view, note=None):
     body += section("Summary", *summed_up(source, view))
     body += section("Temperature by time", *drawings(source, view))
     if source.registers:
-        body += section("What the dump says of the mission", pairs(proofs.mission_rows(source.registers, source.listing)))
+        body += section("What the dump says of the mission", pairs(proofs.mission_rows(source.registers)))
     body += section("What was proved, and what was not", pairs(proofs.rows(source)))
     body += ['<div class="signing"><div>Read at the dock by, date</div><div>Seen by, date</div></div>']
     body += entries(source, view)
