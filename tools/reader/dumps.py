@@ -8,27 +8,25 @@ from . import mend
 from .line import PAGES, READ_MEMORY, crc16
 from .listing import DEVICES, HALF, REFUSALS, Thresholds, counted
 
-LINES, DIGITS = len(PAGES), 72
+LINES, DIGITS, LOG_BYTES = len(PAGES), 72, 8192
 BELOW_ZERO = {0x40: 656, 0x60: 16}  # the reading that is 0 degrees
 NO_DIGIT = re.compile(rb"[^0-9A-F]")
 
-# Of the register pages; thresholds where their alarm is enabled, the period in seconds.
-Registers = namedtuple(
-    "Registers", "code clock period thresholds entry_bytes rollover suta mission high_flag low_flag samples device_samples "
-                 "etl cleared")
+# Of the register pages, by the sheet's names; thresholds where their alarm is enabled, the period in seconds.
+Registers = namedtuple("Registers", "code clock period thresholds entry_bytes etl ro suta mip thf tlf samples device_samples")
 
 
 def registers(dump):
     """What the two register pages of a dump say."""
     page = bytes.fromhex(dump[4:68].decode("ascii")) + bytes.fromhex(dump[77:141].decode("ascii"))
-    code, control, alarms, general = page[0x26], page[0x13], page[0x14], page[0x15]
-    zero = BELOW_ZERO.get(code, 0)
+    alarms, control, flags = page[0x10], page[0x13], page[0x14]
+    zero = BELOW_ZERO.get(page[0x26], 0)
     return Registers(
-        code=code, clock=page[0:6], period=(page[6] | page[7] << 8) * (1 if page[0x12] & 2 else 60),
-        thresholds=Thresholds(page[8] * HALF - zero if page[0x10] & 1 else None, page[9] * HALF - zero if page[0x10] & 2 else None),
-        entry_bytes=2 if control & 4 else 1, rollover=bool(control & 16), suta=bool(control & 32), mission=bool(general & 2),
-        high_flag=bool(alarms & 2), low_flag=bool(alarms & 1), samples=int.from_bytes(page[0x20:0x23], "little"),
-        device_samples=int.from_bytes(page[0x23:0x26], "little"), etl=control & 1, cleared=bool(general & 8))
+        code=page[0x26], clock=page[0:6], period=(page[6] | page[7] << 8) * (1 if page[0x12] & 2 else 60),
+        thresholds=Thresholds(low=page[8] * HALF - zero if alarms & 1 else None, high=page[9] * HALF - zero if alarms & 2 else None),
+        entry_bytes=2 if control & 4 else 1, etl=bool(control & 1), ro=bool(control & 16), suta=bool(control & 32),
+        mip=bool(page[0x15] & 2), thf=bool(flags & 2), tlf=bool(flags & 1),
+        samples=int.from_bytes(page[0x20:0x23], "little"), device_samples=int.from_bytes(page[0x23:0x26], "little"))
 
 
 # ---- Why it was refused ----
@@ -72,8 +70,8 @@ def wrong_crc(data):
     if not wrong:
         return None
     line = dict(numbered(data))[wrong[0]]
-    return (f"line {wrong[0]} (page {line[:4].decode()}h): its CRC is {crc_sent(line)}, and its data give {crc_due(line)}: a digit of "
-            f"it was changed{others(wrong)}")
+    return (f"line {wrong[0]} (page {line[:4].decode()}h): its CRC is {crc_sent(line)}, and its data give {crc_due(line)}: "
+            f"a digit of it was changed{others(wrong)}")
 
 
 def crc_sent(line):
@@ -110,8 +108,8 @@ def others(wrong):
 
 def wrong_mission(data):
     found = registers(data)
-    entries = found.samples + (found.suta and (found.high_flag or found.low_flag))
-    places = 8192 // found.entry_bytes
+    flag, places = found.thf or found.tlf, LOG_BYTES // found.entry_bytes
+    entries = found.samples + (found.suta and flag)
     words = []
     if found.code not in DEVICES:
         words.append(f"its code is {found.code:02X}h, neither 40h (DS1922L) nor 60h (DS1922T)")
@@ -119,8 +117,8 @@ def wrong_mission(data):
         words.append("its sample rate is 0")
     if not found.etl:
         words.append("temperature logging is off (ETL is 0)")
-    if not found.rollover and entries > places:
+    if not found.ro and entries > places:
         words.append(f"it counts {counted(entries)} without rollover, and the log has {places:,} places")
-    if found.suta and found.samples and not (found.high_flag or found.low_flag):
+    if found.suta and found.samples and not flag:
         words.append(f"it was to start upon an alarm (SUTA) and counts {counted(found.samples)}, but no alarm is marked")
     return f"it can't be of a mission: {'; '.join(words)}" if words else None

@@ -44,7 +44,8 @@ def json_text(source, view):
         "device": DEVICES[listing.code], "registration_number": source.rom.hex().upper() if source.rom else None,
         "file": source.name, "kind": source.kind, "sha256": source.digest, "printed": evidence.now(),
         "builds": [build._asdict() for build in source.builds], "reader": f"revision {programs.revision()}, not proved",
-        "disagreements": source.disagreements, "stamp": {"bytes": listing.stamp.hex().upper(), "time": stamp and stamp.isoformat()},
+        "disagreements": source.disagreements,
+        "stamp": {"bytes": listing.stamp.hex().upper(), "time": stamp and stamp.isoformat()},
         "thresholds_celsius": {name: None if value is None else value / DEGREE for name, value in thresholds._asdict().items()},
         "summary_celsius_seconds": summary.json_of(summary.summary(listing, thresholds, source.period), thresholds)
         if listing.entries else None,

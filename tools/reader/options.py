@@ -43,12 +43,14 @@ def folder(parser):
 
 def seen(parser):
     """For what a file is shown as: a session, a dump or a listing, with what only the person knows."""
-    parser.add_argument("--rom", metavar="NUMBER", type=rom, help="the tag's registration number, which a dump does not have: 16 digits")
+    parser.add_argument("--rom", metavar="NUMBER", type=rom,
+                        help="the tag's registration number, which a dump does not have: 16 digits")
     parser.add_argument("--low", metavar="DEGREES", type=threshold, help="a threshold to mark, in °C; else the dump's own")
     parser.add_argument("--high", metavar="DEGREES", type=threshold, help="the same")
     parser.add_argument("--fahrenheit", action="store_true", help="degrees Fahrenheit too")
     parser.add_argument("--zone", type=view.zone_name, help="times in a zone too, as UTC+02:00 or Europe/Paris")
-    parser.add_argument("--clock", metavar="ZONE", type=view.zone_name, default="UTC", help="what the tag's clock was set to (UTC)")
+    parser.add_argument("--clock", metavar="ZONE", type=view.zone_name, default="UTC",
+                        help="what the tag's clock was set to (UTC)")
     play_program(parser)
     list_program(parser)
 
@@ -68,7 +70,8 @@ def new_file(parser):
 
 
 def play_program(parser):
-    parser.add_argument("--play", metavar="COMMAND", type=program, default=programs.PLAY, help="another program in place of ./run play")
+    parser.add_argument("--play", metavar="COMMAND", type=program, default=programs.PLAY,
+                        help="another program in place of ./run play")
 
 
 def list_program(parser):
@@ -88,7 +91,8 @@ def rom(text):
     except ValueError:
         number = b""
     if len(number) != 8 or number[0] != FAMILY or crc8(number[:7]) != number[7]:
-        raise argparse.ArgumentTypeError(f"'{text}' is no registration number: 16 digits, the first two 41, the last two their CRC-8")
+        raise argparse.ArgumentTypeError(
+            f"'{text}' is no registration number: 16 digits, the first two 41, the last two the CRC-8 of the others")
     return number
 
 

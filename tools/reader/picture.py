@@ -37,7 +37,8 @@ class Plot:
     def __init__(self, source, view, shape):
         self.entries, self.thresholds, self.view, self.shape = source.listing.entries, source.thresholds, view, shape
         self.bottom = shape.top + shape.plot
-        self.times = Scale([entry.seconds for entry in self.entries], 2, (shape.left + 6, shape.right - 6), TIME_STEPS, shape.marks)
+        self.times = Scale([entry.seconds for entry in self.entries], 2, (shape.left + 6, shape.right - 6), TIME_STEPS,
+                           shape.marks)
         values = [entry.temperature for entry in self.entries] + [bound for bound in self.thresholds if bound is not None]
         room = max(4, (max(values) - min(values)) // 12)  # above and below, so that no line lies on the frame
         self.degrees = Scale([min(values) - room, max(values) + room], 2 * DEGREE, (self.bottom, shape.top),
@@ -105,7 +106,8 @@ class Plot:
 
     def bounds(self):
         """The thresholds by their names, high first."""
-        return [(name, value) for name, value in (("high", self.thresholds.high), ("low", self.thresholds.low)) if value is not None]
+        named = (("high", self.thresholds.high), ("low", self.thresholds.low))
+        return [(name, value) for name, value in named if value is not None]
 
     def bound_lines(self):
         for _, value in self.bounds():
@@ -194,11 +196,13 @@ def svg(source, view):
     start = below(shape, view) + 16
     title = f"Temperatures logged by a {DEVICES[source.listing.code]} tag"
     height = start + 17 * len(lines) + 12
-    body = [*opening(shape, height, title), f"<style>{STYLE}</style>", f'<rect width="{shape.width}" height="{height}" fill="white"/>',
+    body = [*opening(shape, height, title), f"<style>{STYLE}</style>",
+            f'<rect width="{shape.width}" height="{height}" fill="white"/>',
             f'<text class="title" x="{shape.left}" y="34">{title}</text>',
             f'<text class="quiet" x="{shape.left}" y="56">{minus(view.extent(source.listing))}</text>']
     body += framed(source, view, shape)
-    body += [f'<text{kind} x="{shape.left}" y="{start + 17 * at}">{escape(text)}</text>' for at, (kind, text) in enumerate(lines)]
+    body += [f'<text{kind} x="{shape.left}" y="{start + 17 * at}">{escape(text)}</text>'
+             for at, (kind, text) in enumerate(lines)]
     return "\n".join([*body, "</svg>"]) + "\n"
 
 

@@ -51,10 +51,10 @@ def mission_rows(registers):
     """What a person asks of a mission; read out of the dump by the reader."""
     clock = date_of(registers.clock)
     yield "Sampling", f"{period_words(registers.period)}, {'0.0625' if registers.entry_bytes == 2 else '0.5'} °C an entry"
-    yield "When the log is full", "the oldest entries are overwritten (rollover)" if registers.rollover else "logging ends"
+    yield "When the log is full", "the oldest entries are overwritten (rollover)" if registers.ro else "logging ends"
     yield "Start", "upon an alarm (SUTA)" if registers.suta else "at once, or after the delay that was set"
-    yield "State", "the mission was still running" if registers.mission else "no mission was running any more"
-    flags = [name for name, is_set in (("high (THF)", registers.high_flag), ("low (TLF)", registers.low_flag)) if is_set]
+    yield "State", "the mission was still running" if registers.mip else "no mission was running any more"
+    flags = [name for name, is_set in (("high (THF)", registers.thf), ("low (TLF)", registers.tlf)) if is_set]
     yield "Alarms marked by the tag", " and ".join(flags) or "none"
     yield "Counted", f"{registers.samples:,} in this mission, {registers.device_samples:,} in the tag's life"
     yield "The tag's clock as it was read", f"{clock:%Y-%m-%d %H:%M:%S}" if clock else "no date and time"

@@ -1,5 +1,6 @@
 """A log as one page for an inspector: HTML with nothing to load beside it, for a screen of any width and for A4."""
 
+import os
 from html import escape
 
 from . import evidence, picture, proofs, summary, table, words
@@ -7,48 +8,8 @@ from .listing import DEVICES
 from .words import minus
 
 CHUNK = 200  # entries in a part of the table: about a page of A4
-STYLE = """
-  :root { color-scheme: light }
-  * { box-sizing: border-box }
-  body { margin: 0; background: #f2f4f5; color: #1c2226;
-    font: 15px/1.45 "Helvetica Neue", Arial, "Liberation Sans", "DejaVu Sans", sans-serif }
-  main { max-width: 1040px; margin: 24px auto; padding: 32px 40px; background: white; border: 1px solid #dfe3e6; border-radius: 6px }
-  h1 { font-size: 25px; line-height: 1.2; margin: 0 0 4px } h2 { font-size: 17px; margin: 30px 0 8px; color: #0f4c7c }
-  h3 { font-size: 13px; margin: 18px 0 4px; color: #555 }
-  p { margin: 6px 0 } .sub { color: #56616a; font-size: 16px }
-  .note { border-left: 3px solid #9db4c4; padding-left: 10px; white-space: pre-line; overflow-wrap: anywhere }
-  .warning { background: #fdf1d8; border: 1px solid #e6c36a; border-radius: 4px; padding: 8px 12px; margin: 14px 0 }
-  dl { display: grid; grid-template-columns: max-content 1fr; gap: 3px 18px; margin: 8px 0 }
-  dt { color: #56616a } dd { margin: 0; overflow-wrap: anywhere }
-  .figures { display: grid; grid-template-columns: repeat(auto-fit, minmax(150px, 1fr)); gap: 10px; margin: 16px 0 4px }
-  .figures div { border: 1px solid #dfe3e6; border-radius: 5px; padding: 8px 12px }
-  .figures b { display: block; font-size: 21px; white-space: nowrap } .figures span { color: #56616a; font-size: 13px }
-  .figures .alarm b { color: #b01818 }
-  svg.log { display: block; width: 100%; height: auto } svg.phone { display: none }
-  .rows { columns: 14.5em; column-gap: 26px; font-size: 12.5px; line-height: 1.35 } .rows.wide { columns: 25em }
-  table { border-collapse: separate; border-spacing: 0; width: 100%; font-variant-numeric: tabular-nums } thead { break-inside: avoid }
-  th { text-align: right; font-weight: normal; color: #56616a; border-bottom: 1px solid #aab4bb; padding: 2px 4px }
-  td { text-align: right; padding: 1px 4px; border-bottom: 1px solid #eceff1; white-space: nowrap } tr { break-inside: avoid }
-  tr.day td { text-align: left; font-weight: bold; padding-top: 6px; break-after: avoid }
-  tr.alarm td { color: #b01818; font-weight: bold }
-  .signing { display: none }
-  @media screen and (max-width: 640px) {
-    body { background: white } main { margin: 0; padding: 18px 14px; border: 0 }
-    dl { grid-template-columns: 1fr; gap: 0 } dd { margin-bottom: 7px } h1 { font-size: 21px }
-    .figures { grid-template-columns: 1fr 1fr } .figures b { font-size: 19px }
-    svg.desk { display: none } svg.phone { display: block } .rows.wide { columns: 1; font-size: 11.5px } .wide td { white-space: normal }
-  }
-  @page { size: A4; margin: 15mm 14mm }
-  @media print {
-    body { background: white; font-size: 10.5px } main { margin: 0; padding: 0; border: 0; max-width: none }
-    h1 { font-size: 20px } h2 { font-size: 13.5px; margin: 14px 0 5px; break-after: avoid } h3 { font-size: 10px; margin: 10px 0 3px; break-after: avoid }
-    .sub { font-size: 12px } .figures b { font-size: 15px } .figures span { font-size: 10px } .figures { margin: 10px 0 2px }
-    section, dl, .warning { break-inside: avoid } section.table { break-inside: auto }
-    .rows { font-size: 8.5px; columns: 4; column-gap: 16px; column-fill: balance } .rows.wide { columns: 2 }
-    .signing { display: grid; grid-template-columns: 1fr 1fr; gap: 40px; margin-top: 34px; break-inside: avoid }
-    .signing div { border-top: 1px solid #444; padding-top: 3px; color: #444 }
-  }
-"""
+with open(os.path.join(os.path.dirname(__file__), "report.css"), encoding="utf-8") as style:
+    STYLE = style.read()
 # Each sheet of paper says which file it is of; a browser that can't write into margins leaves it out.
 MARGINS = """
   @page {{ margin-bottom: 18mm;
@@ -68,8 +29,8 @@ def html(source, view, note=None):
     """The whole page."""
     tag = f"tag {source.rom.hex().upper()}" if source.rom else f"a {DEVICES[source.listing.code]} tag"
     title = f"Temperatures of {tag}"
-    style = STYLE + MARGINS.format(digest=source.digest) + picture.STYLE
-    body = [f"{OPENING}<title>{escape(title)}</title>\n<style>{style}</style>\n</head>\n<body>\n<main>",
+    styles = STYLE + MARGINS.format(digest=source.digest) + picture.STYLE
+    body = [f"{OPENING}<title>{escape(title)}</title>\n<style>\n{styles}</style>\n</head>\n<body>\n<main>",
             f'<header><h1>{escape(title)}</h1><p class="sub">{escape(minus(view.extent(source.listing)))}</p></header>']
     body += [f'<p class="note">{escape(note)}</p>'] if note else []
     body += [f'<p class="warning">{escape(text)}</p>' for text in proofs.warnings(source)]

@@ -70,7 +70,8 @@ def every(entries):
 
 def period_words(seconds):
     """every minute, every 10 min"""
-    return {1: "every second", 60: "every minute", 3600: "every hour", 86400: "every day"}.get(seconds) or f"every {span(seconds)}"
+    units = {1: "second", 60: "minute", 3600: "hour", 86400: "day"}
+    return f"every {units.get(seconds) or span(seconds)}"
 
 
 def span(seconds):
