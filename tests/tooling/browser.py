@@ -12,14 +12,15 @@ from .common import DONE, LANDING, READER, listing, start
 NAMES = ("chromium", "chromium-browser", "google-chrome", "chrome")
 TIMEOUT = 120
 A4 = (595, 842)  # points
-FRAME = '<!DOCTYPE html><html><body><iframe style="width: {width}px; height: 900px; border: 0" srcdoc="{page}"></iframe></body></html>'
+FRAME = '<!DOCTYPE html><body><iframe style="width: {width}px; height: 900px; border: 0" srcdoc="{page}"></iframe></body>'
 # Written into a copy of the page, without the line that forbids scripts: what the browser made of it. The copy stands in a frame,
 # as a window is never narrower than 500.
 MEASURE = """<script>addEventListener("load", () => {
   const shown = name => getComputedStyle(document.querySelector("svg." + name)).display;
-  const wide = [...document.querySelectorAll("main *")].filter(e => !e.closest("svg") && e.getBoundingClientRect().right > innerWidth + 1);
-  parent.document.body.dataset.measured = JSON.stringify([innerWidth, document.documentElement.scrollWidth, shown("desk"), shown("phone"),
-    wide.length, document.querySelectorAll("tbody tr:not(.day)").length]).replaceAll('"', "'");
+  const out = e => !e.closest("svg") && e.getBoundingClientRect().right > innerWidth + 1;
+  parent.document.body.dataset.measured = JSON.stringify([innerWidth, document.documentElement.scrollWidth, shown("desk"),
+    shown("phone"), [...document.querySelectorAll("main *")].filter(out).length,
+    document.querySelectorAll("tbody tr:not(.day)").length]).replaceAll('"', "'");
 });</script></head>"""
 
 
@@ -35,7 +36,8 @@ def open_in(program, folder, *words):
 
 def pages():
     long = listing(*((k, 60 * k, k % 300) for k in range(3000)))
-    return (("the landing", [*LANDING, "--note", "Bag 17"], b"", 66), ("a long log", ["-", "--low", "2", "--high", "14"], long, 3000),
+    return (("the landing", [*LANDING, "--note", "Bag 17"], b"", 66),
+            ("a long log", ["-", "--low", "2", "--high", "14"], long, 3000),
             ("zones and Fahrenheit", ["examples/landing.dump", "--zone", "UTC+02:00", "--fahrenheit", "--low", "3"], b"", 66),
             ("no entry", ["-"], listing(stamp="0" * 12), 0))
 

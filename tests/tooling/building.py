@@ -28,10 +28,11 @@ def statuses():
             (["play"], NEW_TAG, DONE, b""), (["play"], b"", REFUSED, b"R04\n"),
             (["play"], NEW_TAG + b"\2\0\0\4\0\0\2\0\0", REFUSED, b"0\nR01\n")):
         done = start([RUN, *words], stdin)
-        yield f"run {words} with {stdin[:20]}", (done.returncode, done.stdout) == (status, output), (done.returncode, done.stdout[:99])
+        yield f"run {words} with {stdin[:20]}", (done.returncode, done.stdout) == (status, output), done
     for word in ("--help", "-h"):
         done = start([RUN, word])
-        yield f"run {word}", done.returncode == DONE and b"1 refused" in done.stdout and b"3 could not be done" in done.stdout, done
+        right = done.returncode == DONE and all(part in done.stdout for part in (b"1 refused", b"3 could not be done"))
+        yield f"run {word}", right, done
     done = start([RUN, "--version"])
     yield "run --version", done.returncode == DONE and b"not proved" in done.stdout, done
 
@@ -68,12 +69,19 @@ def unwritable():
         os.chmod(folder, 0o755)
         os.chmod(target, 0o555)
         more = {"user": NOBODY, "group": NOBODY, "extra_groups": []} if os.geteuid() == 0 else {}
-        if start([run, "--help"], cwd=folder, **more).returncode != DONE:
-            yield "run in a clone of somebody else", None, "an unprivileged user can't use this machine's files"
+        if not can_start([run, "--version"], cwd=folder, **more):
+            yield "run in a clone that can't be written to", None, "a user without rights can't use the kit or the folder"
             return
         done = start([run, "list"], cwd=folder, **more)
         yield "run in a clone that can't be written to", *one_line(done, FAILED, "'list' was not built: can't write into")
         yield "what it leaves there", leftovers(target) == [] and not os.path.exists("/src"), leftovers(target)
+
+
+def can_start(words, **more):
+    try:
+        return start(words, **more).returncode == DONE
+    except OSError:
+        return False
 
 
 def builds():
@@ -103,7 +111,8 @@ def proved_builds(folder, run, reader):
     os.makedirs(os.path.dirname(proved))
     shutil.copy(os.path.join(folder, "target", "unproved", "list"), proved)
     dump = os.path.join(folder, "examples", "landing.dump")
-    for name, newer, says in (("proved", None, True), ("with a newer proof", os.path.join(folder, "crates", "dock", "proofs"), False)):
+    proof = os.path.join(folder, "crates", "dock", "proofs")
+    for name, newer, says in (("proved", None, True), ("with a newer proof", proof, False)):
         if newer:
             time.sleep(0.01)
             os.utime(newer)
@@ -111,7 +120,8 @@ def proved_builds(folder, run, reader):
         yield f"run --build, {name}", done.stdout.endswith(b"list, proved\n") == says, done.stdout
         for word in ("table", "picture"):
             done = start([reader, word, dump])
-            yield f"the {word} of a build {name}", (b"list, a proved build" in done.stdout) == says and done.returncode == DONE, done.stdout[:900]
+            right = done.returncode == DONE and (b"list, a proved build" in done.stdout) == says
+            yield f"the {word} of a build {name}", right, done.stdout[:900]
         page = start([reader, "report", dump]).stdout
         right = (b"Every function of the program list that judges" in page, b"nothing on this page rests on a proof" in page)
         yield f"the report of a build {name}", right == (says, not says), right

@@ -1,13 +1,16 @@
 """`.ci/run`, with scripts and a kit in the place of the real ones: what fails stops it, and rt ci's last line is its last."""
 
 import os
+import re
 import shutil
 import stat
 import tempfile
 
 from .common import DONE, TOP, start
 
-SCRIPTS = ("tests/determinacy", "tests/examples", "tests/tools", "tests/readme", "tests/run")
+with open(os.path.join(TOP, ".ci", "run"), encoding="utf-8") as file:
+    SCRIPTS = re.findall(r"(?m)^without_proof (\S+)", file.read())
+DUE = {"tests/determinacy", "tests/examples", "tests/tools", "tests/run"}
 
 
 def make(folder, path, text):
@@ -32,6 +35,7 @@ def gate(failing):
 
 
 def checks():
+    yield "the gate runs what it should", DUE <= set(SCRIPTS), SCRIPTS
     status, lines, proved = gate(None)
     yield "the gate, all well", (status, lines[-1], proved) == (4, "7 passed, 0 failed", True), (status, lines)
     yield "the gate, its lines have names", all(line.startswith(("gate: ", "tests/")) for line in lines[:-1]), lines

@@ -41,15 +41,17 @@ ADDED = (
     ("CRLF", GOOD.replace(b"\n", b"\r\n"), "lines 1 to 258 end in a return and a line feed (CRLF)"),
     ("CRLF in one line", with_line(9, LINES[8] + b"\r"), "line 9 ends in a return"),
     ("a byte-order mark", b"\xEF\xBB\xBF" + GOOD, "a byte-order mark stands before line 1"),
-    ("a blank line", GOOD + b"\n", "blank lines follow line 258"), ("blank lines", GOOD + b"\n \t\n", "blank lines follow line 258"),
+    ("a blank line", GOOD + b"\n", "blank lines follow line 258"),
+    ("blank lines", GOOD + b"\n \t\n", "blank lines follow line 258"),
     ("no last line feed", GOOD[:-1], "the last line has no line feed"),
     ("lower case", GOOD.lower(), "lines from line 1 on have lower-case digits"),
     ("one line in lower case", with_line(5, LINES[4].lower()), "line 5 has lower-case digits"),
-    ("all of it", b"\xEF\xBB\xBF" + GOOD.lower().replace(b"\n", b"\r\n") + b"\r\n\r\n", "a byte-order mark stands before line 1; lines 1 to"),
+    ("all of it", b"\xEF\xBB\xBF" + GOOD.lower().replace(b"\n", b"\r\n") + b"\r\n\r\n",
+     "a byte-order mark stands before line 1; lines 1 to"),
 )
 # What nobody can take away.
 DAMAGED = (
-    ("cut off after a line", b"".join(part + b"\n" for part in LINES[:100]), 7, "it is cut off after line 100, and a dump has 258"),
+    ("cut off after a line", GOOD[:73 * 100], 7, "it is cut off after line 100, and a dump has 258"),
     ("cut off in a line", GOOD[:73 * 100 + 31], 7, "it is cut off in line 101, after 31 of its 72 digits"),
     ("a line too short", with_line(10, LINES[9][:-1]), 7, "line 10 has 71 digits, and a dump's line has 72"),
     ("a line too long", with_line(10, LINES[9] + b"0"), 7, "line 10 has 73 digits"),
@@ -58,14 +60,17 @@ DAMAGED = (
     ("an odd byte", with_line(10, LINES[9][:8] + b"\xFF" + LINES[9][9:]), 7, "line 10, place 9: 'FFh' is no digit"),
     ("a line too many", GOOD + LINES[0] + b"\n", 7, "it has 259 lines, and a dump has 258"),
     ("words before it", b"Hello,\n" + GOOD, 7, "line 1, place 1: 'H' is no digit"),
-    ("a CRC", with_line(10, LINES[9][:-4] + b"0000"), 8, f"line 10 (page 10E0h): its CRC is 0000, and its data give {LINES[9][-4:].decode()}"),
+    ("a CRC", with_line(10, LINES[9][:-4] + b"0000"), 8,
+     f"line 10 (page 10E0h): its CRC is 0000, and its data give {LINES[9][-4:].decode()}"),
     ("two CRCs", with_line(10, LINES[9][:-4] + b"0000").replace(LINES[20][-4:] + b"\n", b"0000\n", 1), 8, "other line"),
     ("two lines changed over", with_line(5, LINES[5]).replace(LINES[5] + b"\n" + LINES[5], LINES[5] + b"\n" + LINES[4]), 9,
      "line 5 has page 1060h where page 1040h belongs"),
     ("a cleared tag", with_registers({0x0215: 0x08}), 10, "the tag's memory is cleared (MEMCLR is 1)"),
     ("another code", with_registers({0x0226: 0x50}), 11, "its code is 50h, neither 40h (DS1922L) nor 60h (DS1922T)"),
-    ("rate 0", with_registers({0x0206: 0}), 11, "its sample rate is 0"), ("ETL 0", with_registers({0x0213: 0xC4}), 11, "(ETL is 0)"),
-    ("counts without rollover", with_registers({0x0222: 1}), 11, "it counts 65,602 entries without rollover, and the log has 4,096 places"),
+    ("rate 0", with_registers({0x0206: 0}), 11, "its sample rate is 0"),
+    ("ETL 0", with_registers({0x0213: 0xC4}), 11, "(ETL is 0)"),
+    ("counts without rollover", with_registers({0x0222: 1}), 11,
+     "it counts 65,602 entries without rollover, and the log has 4,096 places"),
     ("SUTA and no flag", with_registers({0x0213: 0xE5, 0x0214: 0x70}), 11, "but no alarm is marked"),
 )
 
@@ -110,7 +115,8 @@ def mended():
             write(old, data)
             done = start([READER, "mend", old, "-o", new])
             said = done.stderr.decode()
-            yield f"mending {name}", done.returncode == DONE and content(new) == GOOD and content(old) == data, (done.returncode, said)
+            right = done.returncode == DONE and content(new) == GOOD and content(old) == data
+            yield f"mending {name}", right, (done.returncode, said)
             told_all = all(part in said for part in ("mended: ", says.split(";")[0], "the dock takes it as mended"))
             yield f"mending {name}, told", told_all, said
         for name, data, number, says in DAMAGED:
@@ -121,7 +127,8 @@ def mended():
                 yield f"mending {name} changes nothing", right, (done.returncode, done.stderr)
         write(old, GOOD)
         done = start([READER, "mend", old, "-o", new])
-        yield "mending a good dump", done.returncode == DONE and content(new) == GOOD and b"is the same" in done.stderr, done.stderr
+        right = done.returncode == DONE and content(new) == GOOD and b"is the same" in done.stderr
+        yield "mending a good dump", right, done.stderr
         done = start([READER, "mend", "-", "-o", "-"], ADDED[0][1])
         yield "mending on the way", (done.returncode, done.stdout) == (DONE, GOOD), done.stderr
         with open(old, "rb") as file:

@@ -19,8 +19,8 @@ from .common import DONE, FAILED, LANDING, MISUSED, READER, REFUSED, TOP, conten
 
 sys.path.insert(0, os.path.join(TOP, "tools"))
 
+from reader import commands, summary
 from reader import listing as listings
-from reader import summary
 
 ROM = "412BC5FB000000A1"
 VOID = {"meta", "br", "hr", "img", "link", "input"}
@@ -102,13 +102,15 @@ def figures():
         above = [k for k in ks if bounds.high is not None and degrees[k] >= bounds.high]
         below = [k for k in ks if bounds.low is not None and degrees[k] // 8 <= bounds.low // 8]
         longest = max((n for k in above for n in range(1, 61) if all(k + i in above for i in range(n))), default=0)
-        expected = (min(degrees.values()), max(degrees.values()), sum(degrees.values()) / len(ks), len(above), len(below), longest)
+        values = list(degrees.values())
+        expected = (min(values), max(values), sum(values) / len(values), len(above), len(below), longest)
         got = (found.lowest.temperature, found.highest.temperature, found.mean, found.above, found.below, len(found.longest))
         wrong += [] if got == expected else [(entries, bounds, got, expected)]
     yield "the figures of random logs", not wrong, wrong[:1]
     table = shown("table", "examples/landing.dump")
     for words in ("Lowest                    2.5000 °C, entry 55, 2026-11-12 14:40:01", "Mean                      7.06 °C",
-                  "Time at or above 10.0 °C  1 h 50 min (11 entries)", "entry 24 to 34, 2026-11-12 09:30:01 to 2026-11-12 11:10:01",
+                  "Time at or above 10.0 °C  1 h 50 min (11 entries)",
+                  "Longest stretch above     1 h 50 min (11 entries), entry 24 to 34, 2026-11-12 09:30:01 to 2026-11-12 11:10:01",
                   "A time at a threshold is entries times period, 10 min each"):
         yield f"the landing's table: {words}", words in table, table[-900:]
 
@@ -139,7 +141,8 @@ def evidence():
 
 
 def thresholds():
-    for more, says in (((), "at or above 10.0 °C (high, set in the tag)."), (("--high", "11"), "11.0 °C (high, given with --high)"),
+    for more, says in (((), "at or above 10.0 °C (high, set in the tag)."),
+                       (("--high", "11"), "11.0 °C (high, given with --high)"),
                        (("--low", "3"), "10.0 °C (high, set in the tag) and at or below 3.0 °C (low, given with --low)"),
                        (("--low", "3"), "so low is every temperature below 3.5 °C")):
         for word in FORMS:
@@ -165,7 +168,8 @@ def long_logs():
 # ---- Exports, units, zones ----
 
 def exports():
-    held = [(int(line[:8], 16), int(line[8:24], 16), int(line[24:], 16)) for line in content("examples/landing.listing").split()[1:]]
+    lines = content("examples/landing.listing").split()[1:]
+    held = [(int(line[:8], 16), int(line[8:24], 16), int(line[24:], 16)) for line in lines]
     start_of = datetime(2026, 11, 12, 5, 30, 1)
     rows = list(csv.reader(io.StringIO(shown("table", "examples/landing.dump", "--csv"))))
     head = ["entry", "time (tag's clock)", "seconds from the stamp (s)", "temperature (1/16 °C)", "temperature (°C)"]
@@ -180,11 +184,13 @@ def exports():
         10.0625, 50.1125, "2026-11-12T09:30:01", "2026-11-12T11:30:01+02:00")
     yield "JSON, an entry", right, row
     yield "JSON, units for every column", set(row) == set(page["units"]), page["units"]
-    right = (page["summary_celsius_seconds"]["at_or_above_high"], page["thresholds_celsius"]) == (6600, {"low": None, "high": 10.0})
-    yield "JSON, its figures", right, page["summary_celsius_seconds"]
+    found = page["summary_celsius_seconds"]
+    right = found["at_or_above_high"] == 6600 and page["thresholds_celsius"] == {"low": None, "high": 10.0}
+    yield "JSON, its figures", right, found
     empty = json.loads(shown("table", "-", "--json", stdin=listing(stamp="000000000000")))
     yield "JSON of no entry", empty["entries"] == [] and empty["summary_celsius_seconds"] is None, empty
-    no_dates = list(csv.reader(io.StringIO(shown("table", "-", "--csv", "--zone", "UTC", stdin=listing((0, -600, -1), stamp="0" * 12)))))
+    alone = listing((0, -600, -1), stamp="0" * 12)
+    no_dates = list(csv.reader(io.StringIO(shown("table", "-", "--csv", "--zone", "UTC", stdin=alone))))
     yield "CSV without dates", no_dates[1] == ["0", "", "", "-600", "-1", "-0.0625"], no_dates
 
 
@@ -213,14 +219,15 @@ def zones():
 
 def passwords():
     dump = content("examples/landing.dump")
-    for name, text in (("as characters", b"INSPECT1\n"), ("as digits", b"494E535045435431\r\n"), ("with a mark", b"\xEF\xBB\xBFINSPECT1")):
+    for name, text in (("as characters", b"INSPECT1\n"), ("as digits", b"494E535045435431\r\n"),
+                       ("with a mark", b"\xEF\xBB\xBFINSPECT1")):
         with tempfile.NamedTemporaryFile() as file:
             file.write(text)
             file.flush()
             got = start([READER, "dump", "examples/landing.session", "--password-file", file.name])
             yield f"a password in a file, {name}", got.stdout == dump, got.stderr
-    for typed, due, says in ((b"INSPECT1\n", DONE, b""), (b"\n", REFUSED, b"is the password right?"), (b"short\n", MISUSED, b"a password is"),
-                             (b"\x03", FAILED, b"reader: stopped")):
+    for typed, due, says in ((b"INSPECT1\n", DONE, b""), (b"\n", REFUSED, b"is the password right?"),
+                             (b"short\n", MISUSED, b"a password is"), (b"\x03", FAILED, b"reader: stopped")):
         status, said = at_a_terminal([READER, "dump", "examples/landing.session", "-o", "/dev/null"], typed)
         unseen = b"INSPECT1" not in said and b"short" not in said
         yield f"a password typed, {typed}", status == due and says in said and unseen, (status, said)
@@ -248,7 +255,7 @@ def at_a_terminal(words, typed):
 
 
 def helps():
-    for words in (["--help"], ["help"], *([word, "--help"] for word in ("show", "table", "picture", "report", "mend", "play", "record", "dump"))):
+    for words in (["--help"], ["help"], *([word, "--help"] for word in commands.COMMANDS)):
         done = start([READER, *words])
         text = " ".join(done.stdout.decode().split())
         right = done.returncode == DONE and "1 refused" in text and "3 could not be done" in text and not done.stderr

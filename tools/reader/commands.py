@@ -89,7 +89,7 @@ def show(given):
     """The main job, with every step told on standard error; the table alone goes to standard output."""
     found, how = seen(given)
     whole = table.table(found, how)
-    parts = {"listing": found.listed, "table": whole, "svg": picture.svg(found, how), "html": report.html(found, how)}
+    parts = {"listing": found.listed, "table": whole, "svg": picture.svg(found, how), "html": report.html(found, how, given.note)}
     if found.kind == source.SESSION:
         parts["dump"] = found.dump.decode("ascii")
     paths = save(given.output or os.path.join(programs.TOP, "target", "shown"), given.file, parts)
@@ -136,7 +136,7 @@ def mend_dump(given):
 Command = namedtuple("Command", "does takes about groups")
 COMMANDS = {
     "show": Command(show, "[FILE]", "all of it: prints the table, writes the picture and the page for an inspector",
-                    (options.secret, options.seen, options.folder)),
+                    (options.secret, options.seen, options.note, options.folder)),
     "table": Command(print_table, "[FILE]", "the table alone, or CSV or JSON",
                      (options.secret, options.seen, options.exports, options.output)),
     "picture": Command(draw, "[FILE]", "the picture alone, SVG", (options.secret, options.seen, options.output)),

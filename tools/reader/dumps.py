@@ -23,7 +23,7 @@ def registers(dump):
     zero = BELOW_ZERO.get(page[0x26], 0)
     return Registers(
         code=page[0x26], clock=page[0:6], period=(page[6] | page[7] << 8) * (1 if page[0x12] & 2 else 60),
-        thresholds=Thresholds(low=page[8] * HALF - zero if alarms & 1 else None, high=page[9] * HALF - zero if alarms & 2 else None),
+        thresholds=Thresholds(page[8] * HALF - zero if alarms & 1 else None, page[9] * HALF - zero if alarms & 2 else None),
         entry_bytes=2 if control & 4 else 1, etl=bool(control & 1), ro=bool(control & 16), suta=bool(control & 32),
         mip=bool(page[0x15] & 2), thf=bool(flags & 2), tlf=bool(flags & 1),
         samples=int.from_bytes(page[0x20:0x23], "little"), device_samples=int.from_bytes(page[0x23:0x26], "little"))
