@@ -47,6 +47,8 @@ ODD = (
     ("the next century", listing(*DAY, stamp="003005129126"), "the stamp is 2126-11-12 05:30:00"),
     ("centuries", listing(*((k, 982980 * k, k % 99) for k in range(8192))), "one every 11 d 9 h 3 min"),
     ("out of the calendar", listing((16000000, 982980 * 16000000, 5)), "they lead out of the calendar"),
+    ("the ends of 64 bits", listing((0, -2 ** 63, -32768), (1, 2 ** 63 - 1, 32767)), "they lead out of the calendar"),
+    ("one entry at the end", listing((0, 2 ** 63 - 1, 5)), "they lead out of the calendar"),
     ("out of it in the middle", listing((0, 0, 5), (1, 2 ** 62, 5), (2, 60, 5)), "they lead out of the calendar"),
 )
 
@@ -121,6 +123,7 @@ def evidence():
     for path, more, tag in (("examples/landing.session", LANDING[1:], f"{ROM}, by the session"),
                             ("examples/landing.dump", (), "number not known: a dump has no registration number"),
                             ("examples/landing.dump", ("--rom", ROM), f"{ROM}, given with --rom"),
+                            ("examples/landing.dump", ("--rom", "41-000000fbc52b"), f"{ROM}, given with --rom"),
                             ("examples/landing.listing", (), "number not known: a listing has no registration number")):
         digest = hashlib.sha256(content(path)).hexdigest()
         for word in FORMS:
@@ -136,8 +139,8 @@ def evidence():
             got = shown(word, path, "--high", "11")
             name = "<b>&amp;\\n'" if word == "table" else "&lt;b&gt;&amp;amp;\\n&#x27;"
             yield f"the {word} of a file with an odd name", well_formed(word, got) and name in got, got[:1500]
-    page = shown("report", "examples/landing.dump", "--note", "<i>Bag 7</i>\nlot 3")
-    yield "a note", "&lt;i&gt;Bag 7&lt;/i&gt;\nlot 3" in page and "<i>" not in page, page[:1500]
+    page = shown("report", "examples/landing.dump", "--note", b"<i>Bag 7</i>\nlot \xFF")
+    yield "a note", "&lt;i&gt;Bag 7&lt;/i&gt;\nlot \\udcff" in page and "<i>" not in page, page[:1500]
 
 
 def thresholds():

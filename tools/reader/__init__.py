@@ -3,6 +3,7 @@ proved."""
 
 # The exit statuses of every command, of reader and of run.
 DONE, REFUSED, MISUSED, FAILED = range(4)
+SESSION, DUMP, LISTING = "session", "dump", "listing"  # what a file can be
 
 
 class Fault(Exception):

@@ -11,10 +11,10 @@ MONTH, YEAR = 30 * DAY, 365 * DAY  # as steps; their marks stand at the first of
 TIME_STEPS = (
     *(n * unit for unit in (1, MINUTE) for n in (1, 2, 5, 10, 15, 30)), *(n * HOUR for n in (1, 2, 3, 6, 12)),
     *(n * DAY for n in (1, 2, 7, 14)), *(n * MONTH for n in (1, 3, 6)),
-    *(n * 10 ** power * YEAR for power in range(7) for n in (1, 2, 5)))
-CELSIUS_STEPS = (4, 8, 16, 32, 80, 160, 320, 800)  # sixteenths
+    *(n * 10 ** power * YEAR for power in range(12) for n in (1, 2, 5)))  # up to all that 64 bits of seconds hold
+CELSIUS_STEPS = (4, 8, 16, 32, 80, 160, 320, 800, 8000)  # sixteenths
 FAHRENHEIT = DEGREE * 5 / 9  # a degree Fahrenheit in sixteenths
-FAHRENHEIT_STEPS = tuple(n * FAHRENHEIT for n in (0.5, 1, 2, 5, 10, 20, 50))
+FAHRENHEIT_STEPS = tuple(n * FAHRENHEIT for n in (0.5, 1, 2, 5, 10, 20, 50, 100, 1000))
 EPOCH, LAST_YEAR = datetime(2000, 1, 1), 9999
 
 
@@ -24,7 +24,7 @@ class Scale:
     def __init__(self, values, room, page, steps, most):
         low, high = min(values), max(values)
         if high - low < room:  # a single value, or nearly
-            low, high = low - room / 2, high + room / 2
+            low, high = low - room // 2, high + room // 2
         self.low, self.high, self.page = low, high, page
         self.step = next((step for step in steps if (high - low) / step <= most), steps[-1])
 

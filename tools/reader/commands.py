@@ -4,8 +4,8 @@ import os
 import sys
 from collections import namedtuple
 
-from . import (DONE, FAILED, REFUSED, Fault, Misuse, dumps, export, files, line, listing, mend, options, password, picture,
-               programs, report, sessions, source, table, view)
+from . import DONE, DUMP, FAILED, REFUSED, SESSION, Fault, Misuse
+from . import dumps, export, files, line, listing, mend, options, password, picture, programs, report, sessions, source, table, view
 from .files import say
 
 MOST_TOLD = 10  # of the bytes that are not as a session says
@@ -90,7 +90,7 @@ def show(given):
     found, how = seen(given)
     whole = table.table(found, how)
     parts = {"listing": found.listed, "table": whole, "svg": picture.svg(found, how), "html": report.html(found, how, given.note)}
-    if found.kind == source.SESSION:
+    if found.kind == SESSION:
         parts["dump"] = found.dump.decode("ascii")
     paths = save(given.output or os.path.join(programs.TOP, "target", "shown"), given.file, parts)
     if len(found.listing.entries) > table.MOST_ROWS:
@@ -115,7 +115,7 @@ def mend_dump(given):
     data, name = files.read(given.file), files.name_of(given.file)
     if files.is_same(given.file, given.output):
         raise Misuse("NEW is the same file: a dump as it came is evidence, and stays")
-    if source.kind_of(data, name) != source.DUMP:
+    if source.kind_of(data, name) != DUMP:
         raise Misuse(f"{name} is no dump")
     mended, found = mend.mended(data)
     files.write_bytes(given.output, mended)
@@ -123,9 +123,9 @@ def mend_dump(given):
         say(f"{name}: mended: {sentence}")
     if not found:
         say(f"{name}: nothing that an editor or a mail program adds: the new file is the same")
-    refusal = programs.REFUSAL.fullmatch(programs.run(given.list_, mended))
-    if refusal:
-        raise listing.refused(f"{name} as mended", int(refusal[1]), dumps.explain(int(refusal[1]), mended))
+    number = programs.refusal_in(programs.run(given.list_, mended))
+    if number:
+        raise listing.refused(f"{name} as mended", number, dumps.explain(number, mended))
     say(f"{name}: the dock takes it as mended")
     return DONE
 

@@ -3,14 +3,15 @@
 import hashlib
 from datetime import datetime
 
-from . import programs
+from . import SESSION, programs
 from .listing import DEVICES
+
 
 def rows(source):
     """Pairs of a name and words, for every form of output."""
     number = f"{source.rom.hex().upper()}, {source.rom_from}" if source.rom else f"number not known: {source.rom_from}"
     yield "Tag", f"{DEVICES[source.listing.code]}, {number}"
-    yield "File", f"{source.name}, a {source.kind}{' played to a tag that is a program' if source.kind == 'session' else ''}"
+    yield "File", f"{source.name}, a {source.kind}{' played to a tag that is a program' if source.kind == SESSION else ''}"
     yield "SHA-256", source.digest
     if source.builds:
         for build in source.builds:

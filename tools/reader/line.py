@@ -2,7 +2,7 @@
 
 from . import Fault, Refusal
 from .listing import REFUSALS
-from .programs import REFUSAL, run
+from .programs import refusal_in, run
 from .sessions import ANY, READ, RESET, TICK, WRITE, Frame, events_in
 
 FAMILY = 0x41  # the first ROM byte of a DS1922
@@ -43,9 +43,9 @@ def play(command, frames, name):
 def check_answers(output, frames, name):
     """Each event has its answer, 0 or 1 and a line feed; a refusal is told with the frame that it came for."""
     total = sum(map(events_in, frames[1:]))
-    refusal = REFUSAL.fullmatch(output)
-    if refusal:
-        answered, number = len(output[:-4]) // 2, int(refusal[1])
+    number = refusal_in(output)
+    if number:
+        answered = (len(output) - 4) // 2
         line = frames[0].line if not answered else line_of_event(frames, answered)
         raise Refusal(f"{name}, line {line}: the tag refused with {number:02d}: {REFUSALS.get(number, 'no known refusal')}")
     if len(output) != 2 * total or output[::2].strip(b"01") or output[1::2].strip(b"\n"):

@@ -64,3 +64,11 @@ def signed(digits):
 
 def counted(number):
     return f"{number:,} {'entry' if number == 1 else 'entries'}"
+
+
+def period_of(listing):
+    """From the entries' own seconds, where they tell it."""
+    entries = listing.entries
+    if len(entries) > 1 and entries[-1].k > entries[0].k:
+        return (entries[-1].seconds - entries[0].seconds) // (entries[-1].k - entries[0].k)
+    return -entries[0].seconds if entries and entries[0].seconds < 0 else None  # entry 0, a period before the stamp

@@ -1,6 +1,7 @@
 """The words of the command line: what may be given to a command, and what --help says of it."""
 
 import argparse
+import re
 import shlex
 
 from . import Misuse, files, listing, password, programs, view
@@ -44,7 +45,7 @@ def folder(parser):
 def seen(parser):
     """For what a file is shown as: a session, a dump or a listing, with what only the person knows."""
     parser.add_argument("--rom", metavar="NUMBER", type=rom,
-                        help="the tag's registration number, which a dump does not have: 16 digits")
+                        help="the tag's registration number, which a dump does not have: 16 digits, or 41-000000fbc52b")
     parser.add_argument("--low", metavar="DEGREES", type=threshold, help="a threshold to mark, in °C; else the dump's own")
     parser.add_argument("--high", metavar="DEGREES", type=threshold, help="the same")
     parser.add_argument("--fahrenheit", action="store_true", help="degrees Fahrenheit too")
@@ -62,7 +63,7 @@ def exports(parser):
 
 
 def note(parser):
-    parser.add_argument("--note", metavar="TEXT", help="words to stand on the page: bag, grower, lot")
+    parser.add_argument("--note", metavar="TEXT", type=note_text, help="words to stand on the page: bag, grower, lot")
 
 
 def new_file(parser):
@@ -85,15 +86,21 @@ secret = password.add_options
 # ---- Types ----
 
 def rom(text):
-    """A registration number's eight bytes, family first, as a session's first frame has them."""
+    """A registration number's eight bytes, family first, as a session's first frame has them or as Linux names a tag."""
+    linux = re.fullmatch(r"([0-9A-Fa-f]{2})-([0-9A-Fa-f]{12})", text)
     try:
-        number = bytes.fromhex(text)
+        number = bytes.fromhex(text) if not linux else bytes.fromhex(linux[1]) + bytes.fromhex(linux[2])[::-1]
     except ValueError:
         number = b""
+    number += bytes((crc8(number),)) if linux else b""
     if len(number) != 8 or number[0] != FAMILY or crc8(number[:7]) != number[7]:
         raise argparse.ArgumentTypeError(
             f"'{text}' is no registration number: 16 digits, the first two 41, the last two the CRC-8 of the others")
     return number
+
+
+def note_text(text):
+    return "\n".join(map(files.printable, text.split("\n")))
 
 
 def program(text):

@@ -1,5 +1,6 @@
 """What of a page rests on a proof and what does not, in words; and what a dump's registers say of its mission."""
 
+from . import SESSION
 from .words import date_of, period_words
 
 PROVED = (
@@ -23,7 +24,7 @@ def warnings(source):
     if source.disagreements:
         yield (f"The session is not as recorded: {len(source.disagreements):,} of its bytes differ from what the tag sent; the "
                f"first: {source.disagreements[0]}.")
-    if source.kind == "session":
+    if source.kind == SESSION:
         yield "No real tag was read: the dump is that of a tag played by the program play, from a session."
     if not source.builds:
         yield "Made from a listing of unknown origin: nothing on this page rests on a proof."
@@ -38,7 +39,7 @@ def all_proved(source):
 def rows(source):
     """Pairs of a name and words."""
     if all_proved(source):
-        yield "Proved", PROVED + (PLAYED if source.kind == "session" else "")
+        yield "Proved", PROVED + (PLAYED if source.kind == SESSION else "")
         yield "Tested", TESTED
         yield "Assumed", ASSUMED
     else:

@@ -3,7 +3,7 @@
 import os
 from html import escape
 
-from . import evidence, picture, proofs, summary, table, words
+from . import SESSION, evidence, picture, proofs, summary, table, words
 from .listing import DEVICES
 from .words import minus
 
@@ -60,7 +60,7 @@ def sentences(texts):
 
 def evidence_rows(source):
     yield from evidence.rows(source)
-    if source.kind == "session":
+    if source.kind == SESSION:
         yield "SHA-256 of its dump", evidence.digest(source.dump)
     for build in source.builds:
         if build.digest:

@@ -4,11 +4,10 @@ taken as it stands. Which of the three it is, it tells by how it begins."""
 import re
 from dataclasses import dataclass, field
 
-from . import Fault, Misuse, dumps, evidence, files, line, password, programs, sessions, summary
+from . import DUMP, LISTING, SESSION, Fault, Misuse, dumps, evidence, files, line, password, programs, sessions
 from .files import say
-from .listing import DEGREE, Listing, Thresholds, parse, refused
+from .listing import DEGREE, Listing, Thresholds, parse, period_of, refused
 
-SESSION, DUMP, LISTING = "session", "dump", "listing"
 DUMP_LINE = re.compile(r"^[0-9A-Fa-f]{72}\s*$", re.M)
 LISTING_HEAD = re.compile(r"R[0-9]{2}|[46]0[0-9A-Fa-f]{0,28}")
 UTF_16 = (b"\xFF\xFE", b"\xFE\xFF")
@@ -59,7 +58,7 @@ def load(given):
         source.listed = files.text_of(data, name)
         source.listing = parse(source.listed, name)
         source.rom_from = source.rom_from.replace("a dump", "a listing")
-        source.period = summary.period_of(source.listing)
+        source.period = period_of(source.listing)
     else:
         if source.kind == SESSION:
             play_session(source, given, files.text_of(data, name))
@@ -89,9 +88,9 @@ def list_dump(source, given):
     source.builds.append(programs.build_of(given.list_))
     output = programs.run(given.list_, source.dump)
     name = source.name if source.kind == DUMP else f"the dump of {source.name}"
-    refusal = programs.REFUSAL.fullmatch(output)
-    if refusal:
-        raise refused(name, int(refusal[1]), dumps.explain(int(refusal[1]), source.dump))
+    number = programs.refusal_in(output)
+    if number:
+        raise refused(name, number, dumps.explain(number, source.dump))
     source.listed = output.decode("ascii", "replace")
     try:
         source.listing = parse(source.listed, f"what '{source.builds[-1].program}' printed for {name}")

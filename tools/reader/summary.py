@@ -28,14 +28,6 @@ def longest_run(high):
     return max(runs, key=len, default=[])
 
 
-def period_of(listing):
-    """From the entries' own seconds, where they tell it."""
-    entries = listing.entries
-    if len(entries) > 1 and entries[-1].k > entries[0].k:
-        return (entries[-1].seconds - entries[0].seconds) // (entries[-1].k - entries[0].k)
-    return -entries[0].seconds if entries and entries[0].seconds < 0 else None  # entry 0, a period before the stamp
-
-
 def rows(found, thresholds, view):
     """The summary as pairs of a name and words."""
     first, last = found.entries[0], found.entries[-1]

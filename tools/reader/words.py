@@ -3,7 +3,7 @@
 import re
 from datetime import datetime, timedelta
 
-from .listing import DEGREE, HALF, counted
+from .listing import DEGREE, HALF, counted, period_of
 
 DAYS_OF_ZONES = timedelta(days=2)  # more than any two zones are apart
 
@@ -52,7 +52,8 @@ def log_words(listing):
     entries = listing.entries
     if not entries:
         return ["The log holds no entry."]
-    words = [f"{counted(len(entries))}{every(entries)}."]
+    period = period_of(listing) if len(entries) > 1 else None
+    words = [f"{counted(len(entries))}{f', one {period_words(period)}' if period else ''}."]
     if entries[0].k:
         older = "Entry 0 was" if entries[0].k == 1 else f"The {entries[0].k:,} older entries were"
         words.append(f"{older} overwritten (rollover): the log holds the last {len(entries):,}.")
@@ -62,10 +63,6 @@ def log_words(listing):
     if entries[0].seconds < 0:
         words.append("Entry 0 is the alarm that started the log; the stamp is that of entry 1.")
     return words
-
-
-def every(entries):
-    return f", one {period_words(entries[1].seconds - entries[0].seconds)}" if len(entries) > 1 else ""
 
 
 def period_words(seconds):
