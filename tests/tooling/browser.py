@@ -30,8 +30,20 @@ def browser():
 
 def open_in(program, folder, *words):
     return subprocess.run(
-        [program, "--headless", "--no-sandbox", "--disable-gpu", "--hide-scrollbars", f"--user-data-dir={folder}/profile", *words,
+        [program, "--headless", "--no-sandbox", "--disable-gpu", "--disable-dev-shm-usage", "--hide-scrollbars",
+         f"--user-data-dir={folder}/profile", *words,
          f"file://{folder}/page.html"], stdin=subprocess.DEVNULL, stdout=subprocess.PIPE, stderr=subprocess.PIPE, timeout=TIMEOUT)
+
+
+def starts(program):
+    """Whether the browser shows a page at all; some machines have one that can't start."""
+    with tempfile.TemporaryDirectory(ignore_cleanup_errors=True) as folder:
+        with open(os.path.join(folder, "page.html"), "w", encoding="ascii") as file:
+            file.write("<p>here</p>")
+        try:
+            return b"<p>here</p>" in open_in(program, folder, "--dump-dom").stdout
+        except (OSError, subprocess.TimeoutExpired):
+            return False
 
 
 def pages():
@@ -46,6 +58,9 @@ def checks():
     program = browser()
     if not program:
         yield "the report in a browser", None, f"none of {', '.join(NAMES)} is here"
+        return
+    if not starts(program):
+        yield "the report in a browser", None, f"{program} does not start here"
         return
     for name, words, stdin, entries in pages():
         with tempfile.TemporaryDirectory(ignore_cleanup_errors=True) as folder:

@@ -175,9 +175,10 @@ def exports():
     held = [(int(line[:8], 16), int(line[8:24], 16), int(line[24:], 16)) for line in lines]
     start_of = datetime(2026, 11, 12, 5, 30, 1)
     rows = list(csv.reader(io.StringIO(shown("table", "examples/landing.dump", "--csv"))))
-    head = ["entry", "time (tag's clock)", "seconds from the stamp (s)", "temperature (1/16 °C)", "temperature (°C)"]
+    head = ["entry", "time (tag's clock)", "seconds from the stamp (s)", "temperature (1/16 degree Celsius)",
+            "temperature (degrees Celsius)"]
     yield "CSV, its head", rows[0] == head, rows[0]
-    due = [[str(k), (start_of + timedelta(seconds=s)).isoformat(), str(s), str(t), str(t / 16)] for k, s, t in held]
+    due = [[str(k), str(start_of + timedelta(seconds=s)), str(s), str(t), str(t / 16)] for k, s, t in held]
     yield "CSV, its rows", rows[1:] == due, rows[1:3]
     page = json.loads(shown("table", "examples/landing.dump", "--json", "--fahrenheit", "--zone", "UTC+02:00"))
     got = [(row["entry"], row["seconds"], row["sixteenths"]) for row in page["entries"]]
@@ -234,6 +235,8 @@ def passwords():
         status, said = at_a_terminal([READER, "dump", "examples/landing.session", "-o", "/dev/null"], typed)
         unseen = b"INSPECT1" not in said and b"short" not in said
         yield f"a password typed, {typed}", status == due and says in said and unseen, (status, said)
+    status, said = at_a_terminal([READER, "table"], b"")
+    yield "no file at a terminal", status == MISUSED and b"say which FILE" in said, (status, said)
 
 
 def at_a_terminal(words, typed):
@@ -254,6 +257,7 @@ def at_a_terminal(words, typed):
                 typed = b""
     except OSError:
         pass  # the terminal's other end is closed
+    os.close(terminal)
     return os.waitstatus_to_exitcode(os.waitpid(child, 0)[1]), said
 
 

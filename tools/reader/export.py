@@ -13,23 +13,24 @@ UNITS = {
     "seconds": "s from the stamp", "sixteenths": "1/16 °C", "celsius": "°C"}
 
 
-def columns(view):
-    """Names with their units, and the value of each for an entry."""
+def columns(view, between):
+    """Names, heads with their units, and the value of each for an entry; between a date and a time stands what is asked."""
     yield "entry", "entry", lambda entry: entry.k
-    yield "time", "time (tag's clock)", lambda entry: view.time(entry.seconds).replace(" ", "T") if view.moment else None
+    yield "time", "time (tag's clock)", lambda entry: view.time(entry.seconds).replace(" ", between) if view.moment else None
     if view.zone:
-        yield "zone_time", f"time ({view.zone})", lambda entry: (view.zone_time(entry.seconds) or "").replace(" ", "T") or None
+        yield "zone_time", f"time ({view.zone})", lambda entry: (view.zone_time(entry.seconds) or "").replace(" ", between) or None
     yield "seconds", "seconds from the stamp (s)", lambda entry: entry.seconds
-    yield "sixteenths", "temperature (1/16 °C)", lambda entry: entry.temperature
-    yield "celsius", "temperature (°C)", lambda entry: entry.temperature / DEGREE
+    yield "sixteenths", "temperature (1/16 degree Celsius)", lambda entry: entry.temperature
+    yield "celsius", "temperature (degrees Celsius)", lambda entry: entry.temperature / DEGREE
     if view.fahrenheit:
-        yield "fahrenheit", "temperature (°F)", lambda entry: round(fahrenheit(entry.temperature), 4)
+        yield "fahrenheit", "temperature (degrees Fahrenheit)", lambda entry: round(fahrenheit(entry.temperature), 4)
 
 
 def csv_text(source, view):
+    """In ASCII, with dates as every spreadsheet takes them."""
     text = io.StringIO()
     rows = csv.writer(text, lineterminator="\n")
-    found = list(columns(view))
+    found = list(columns(view, " "))
     rows.writerow([head for _, head, _ in found])
     rows.writerows([value(entry) for _, _, value in found] for entry in source.listing.entries)
     return text.getvalue()
@@ -50,5 +51,5 @@ def json_text(source, view):
         "summary_celsius_seconds": summary.json_of(summary.summary(listing, thresholds, source.period), thresholds)
         if listing.entries else None,
         "units": units,
-        "entries": [{name: value(entry) for name, _, value in columns(view)} for entry in listing.entries]}
+        "entries": [{name: value(entry) for name, _, value in columns(view, "T")} for entry in listing.entries]}
     return json.dumps(page, ensure_ascii=False, indent=1) + "\n"

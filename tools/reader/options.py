@@ -3,6 +3,7 @@
 import argparse
 import re
 import shlex
+import sys
 
 from . import Misuse, files, listing, password, programs, view
 from .line import FAMILY, crc8
@@ -22,11 +23,15 @@ def parse(name, command, words):
     """What was given to a command; one that takes [FILE] takes standard input where none is named."""
     parser = Parser(prog=f"reader {name}", description=f"{command.about[0].upper()}{command.about[1:]}.", epilog=STATUSES,
                     allow_abbrev=False)
-    optional = command.takes.startswith("[")
-    parser.add_argument("file", metavar=command.takes.strip("[]"), nargs="?" if optional else None, default=files.STANDARD)
+    kind, optional = command.takes.strip("[]"), command.takes.startswith("[")
+    parser.add_argument("file", metavar=kind, nargs="?" if optional else None)
     for add in command.groups:
         add(parser)
     given = parser.parse_args(words)
+    if given.file is None:
+        if sys.stdin and sys.stdin.isatty():
+            parser.error(f"say which {kind}, or - for what is typed here")
+        given.file = files.STANDARD
     if None not in (getattr(given, "low", None), getattr(given, "high", None)) and given.low > given.high:
         raise Misuse("--low is above --high")
     return given
