@@ -20,6 +20,12 @@ def start(words, stdin=b"", **more):
     return subprocess.run(words, input=data, **more)
 
 
+def shown(word, *more, stdin=b""):
+    """What a command of the reader prints, or how it ended if that was not well."""
+    done = start([READER, word, *more], stdin)
+    return done.stdout.decode() if done.returncode == DONE else f"status {done.returncode}: {done.stderr.decode()}"
+
+
 def one_line(done, status, says):
     """Whether it ended with the status and one line that says this; lines of progress don't count."""
     lines = [line for line in done.stderr.decode("utf-8", "replace").split("\n") if line and not PROGRESS.match(line)]
