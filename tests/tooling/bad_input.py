@@ -153,6 +153,10 @@ def whole_or_not():
         os.chmod(path, 0o604)
         start([READER, "picture", "-o", path], "R07\n")
         yield "a refusal, the file from before", content(path) == b"before", content(path)
+        no_room = ["bash", "-c", 'ulimit -f 4; exec "$@"', "bash"]  # files of 4,096 bytes at most
+        done = start([*no_room, READER, "picture", "-o", path, "examples/landing.dump"])
+        yield "no room for the whole", *one_line(done, FAILED, f"can't write {path}: file too large")
+        yield "no room, the file from before", content(path) == b"before" and leftovers(folder) == ["out"], leftovers(folder)
         done = start([READER, "picture", "-o", path, "examples/landing.dump"])
         kept = stat.S_IMODE(os.stat(path).st_mode) == 0o604 and leftovers(folder) == ["out"]
         yield "a file written anew", done.returncode == DONE and content(path).startswith(b"<svg") and kept, leftovers(folder)

@@ -10,7 +10,7 @@ import tempfile
 import dumps
 from model import dock
 
-from .common import DONE, MISUSED, READER, REFUSED, TOP, content, one_line, start
+from .common import DONE, MISUSED, READER, REFUSED, TOP, content, one_line, shown, start
 
 sys.path.insert(0, os.path.join(TOP, "tools"))
 
@@ -106,6 +106,22 @@ def words_fit():
     yield "every refusal is among them", all(seen.get(number, 0) > 3 for number in (7, 8, 9, 10, 11)), seen
 
 
+def registers_read():
+    """What the pages say of registers that are not the landing's."""
+    bounds = {0x0208: 0x02, 0x0209: 0x54}  # of a DS1922T: 16 and 672, less 16
+    for word, values, says in (
+            ("table", {0x0226: 0x60, **bounds, 0x0210: 3}, "at or above 41.0 °C (high, set in the tag) and at or below 0.0 °C (low"),
+            ("table", {0x0226: 0x60, **bounds, 0x0210: 1}, "Alarms: at or below 0.0 °C (low, set in the tag)."),
+            ("table", {0x0210: 0}, "No threshold: the tag's alarms are not enabled."),
+            ("table", {0x0212: 3}, "66 entries, one every 10 s."), ("report", {0x0212: 3}, "every 10 s, 0.0625 °C an entry"),
+            ("report", {0x0213: 0xD5}, "the oldest entries are overwritten (rollover)"),
+            ("report", {0x0213: 0xE5}, "upon an alarm (SUTA)"), ("report", {0x0215: 0}, "no mission was running any more"),
+            ("report", {0x0214: 0x71}, "low (TLF)"), ("report", {0x0203: 0x32}, "no date and time"),
+            ("report", {0x0225: 1}, "66 in this mission, 65,602 in the tag")):
+        got = shown(word, "-", stdin=with_registers(values))
+        yield f"the {word} of a dump with registers {values}", says in got, got[:900]
+
+
 # ---- Mending ----
 
 def mended():
@@ -162,5 +178,5 @@ def write(path, data):
 
 
 def checks():
-    for group in (told, words_fit, mended, mends_no_more):
+    for group in (told, words_fit, registers_read, mended, mends_no_more):
         yield from group()

@@ -82,6 +82,8 @@ def draw(given):
 def make_report(given):
     found, how = seen(given)
     files.write(given.output, report.html(found, how, given.note))
+    if given.output:
+        say(f"wrote {given.output}: open it in a browser, and print it from there")
     return judged(found.name, found.disagreements)
 
 
