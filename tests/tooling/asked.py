@@ -5,6 +5,8 @@ import io
 import json
 import os
 import pty
+import select
+import signal
 import sys
 import tempfile
 import zoneinfo
@@ -15,6 +17,8 @@ from .common import DONE, FAILED, MISUSED, READER, REFUSED, TOP, content, listin
 sys.path.insert(0, os.path.join(TOP, "tools"))
 
 from reader import commands
+
+TIMEOUT = 30  # for a word at a terminal
 
 
 # ---- Exports, units, zones ----
@@ -96,14 +100,12 @@ def at_a_terminal(words, typed):
         os.execv(words[0], words)
     said = b""
     try:
-        while True:
-            part = os.read(terminal, 4096)
-            if not part:
-                break
-            said += part
+        while select.select([terminal], [], [], TIMEOUT)[0]:
+            said += os.read(terminal, 4096)
             if b"has none): " in said and typed:
                 os.write(terminal, typed)
                 typed = b""
+        os.kill(child, signal.SIGKILL)  # it waits for what nobody types
     except OSError:
         pass  # the terminal's other end is closed
     os.close(terminal)

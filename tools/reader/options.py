@@ -8,6 +8,8 @@ import sys
 from . import Misuse, files, listing, password, programs, view
 from .line import FAMILY, crc8
 
+KINDS = {"FILE": "a session, a dump or a listing; - is standard input", "SESSION": "a session; - is standard input",
+         "DUMP": "a dump; - is standard input"}
 STATUSES = "Exit status: 0 done; 1 refused, by the tag or the dock; 2 used wrongly; 3 could not be done."
 
 
@@ -24,7 +26,7 @@ def parse(name, command, words):
     parser = Parser(prog=f"reader {name}", description=f"{command.about[0].upper()}{command.about[1:]}.", epilog=STATUSES,
                     allow_abbrev=False)
     kind, optional = command.takes.strip("[]"), command.takes.startswith("[")
-    parser.add_argument("file", metavar=kind, nargs="?" if optional else None)
+    parser.add_argument("file", metavar=kind, nargs="?" if optional else None, help=KINDS.get(kind))
     for add in command.groups:
         add(parser)
     given = parser.parse_args(words)
