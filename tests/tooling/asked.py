@@ -96,6 +96,7 @@ def at_a_terminal(words, typed):
     """The status and what is said, with a terminal for input and output."""
     child, terminal = pty.fork()
     if not child:
+        signal.signal(signal.SIGINT, signal.SIG_DFL)  # which a gate in the background passes on as ignored
         os.chdir(TOP)
         os.execv(words[0], words)
     said = b""

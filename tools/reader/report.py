@@ -2,12 +2,13 @@
 
 import os
 from html import escape
+from math import ceil
 
 from . import SESSION, evidence, picture, proofs, summary, table, words
 from .listing import DEVICES
 from .words import minus
 
-CHUNK = 200  # entries in a part of the table: about a page of A4
+LEAST_IN_A_TABLE, MOST_IN_A_TABLE = 12, 30  # entries; two of the longest tables stand above each other on A4
 with open(os.path.join(os.path.dirname(__file__), "report.css"), encoding="utf-8") as style:
     STYLE = style.read()
 # Each sheet of paper says which file it is of; a browser that can't write into margins leaves it out.
@@ -104,19 +105,17 @@ def drawings(source, view):
 # ---- The table ----
 
 def entries(source, view):
-    held = source.listing.entries
+    """Tables side by side, read row by row of them: a browser breaks a page between two rows of tables."""
+    held, across = source.listing.entries, 2 if view.zone or view.fahrenheit else 4
     if not held:
         return
-    yield f'<section class="table"><h2>Every entry ({len(held):,})</h2>'
-    for at in range(0, len(held), CHUNK):
-        part = held[at:at + CHUNK]
-        if len(held) > CHUNK:
-            yield f"<h3>Entries {part[0].k:,} to {part[-1].k:,}</h3>"
-        wide = " wide" if view.zone or view.fahrenheit else ""
-        yield f'<div class="rows{wide}"><table><thead><tr>{heads(view)}</tr></thead><tbody>'
-        yield "\n".join(rows(part, source, view))
-        yield "</tbody></table></div>"
-    yield "</section>"
+    size = min(MOST_IN_A_TABLE, max(LEAST_IN_A_TABLE, ceil(len(held) / across)))
+    yield f'<section class="table"><h2>Every entry ({len(held):,})</h2>\n<div class="rows across-{across}">'
+    for at in range(0, len(held), size):
+        yield f"<table><thead><tr>{heads(view)}</tr></thead><tbody>"
+        yield "\n".join(rows(held[at:at + size], source, view))
+        yield "</tbody></table>"
+    yield "</div></section>"
 
 
 def heads(view):
