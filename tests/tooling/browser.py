@@ -17,7 +17,8 @@ FRAME = '<!DOCTYPE html><body><iframe style="width: {width}px; height: 900px; bo
 # as a window is never narrower than 500.
 MEASURE = """<script>addEventListener("load", () => {
   const shown = name => getComputedStyle(document.querySelector("svg." + name)).display;
-  const out = e => !e.closest("svg") && e.getBoundingClientRect().right > innerWidth + 1;
+  const main = document.querySelector("main"), right = e => e.getBoundingClientRect().right;
+  const out = e => !e.closest("svg") && right(e) > right(main) - parseFloat(getComputedStyle(main).paddingRight) + 1;
   parent.document.body.dataset.measured = JSON.stringify([innerWidth, document.documentElement.scrollWidth, shown("desk"),
     shown("phone"), [...document.querySelectorAll("main *")].filter(out).length,
     document.querySelectorAll("tbody tr:not(.day)").length]).replaceAll('"', "'");

@@ -9,6 +9,7 @@ import tempfile
 from datetime import datetime
 from html.parser import HTMLParser
 from xml.dom import minidom
+from xml.parsers.expat import ExpatError
 
 from .common import LANDING, TOP, content, listing, shown
 
@@ -54,7 +55,10 @@ def odd_logs():
 
 def well_formed(word, text):
     if word == "picture":
-        minidom.parseString(text.encode())
+        try:
+            minidom.parseString(text.encode())
+        except ExpatError:
+            return False
     return word != "report" or Page(text).whole()
 
 

@@ -46,7 +46,7 @@ def asked():
 def in_file(path):
     try:
         with open(path, encoding="utf-8-sig") as file:
-            return parse(file.readline().rstrip("\r\n"))
+            return parse(file.readline().rstrip("\n"))
     except OSError as error:
         raise Fault(f"can't read {path}: {reason(error)}") from None
     except ValueError:
