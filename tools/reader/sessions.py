@@ -14,7 +14,7 @@ case pairs alone, a line for each frame, 64 bytes at most in a line.
 import re
 from collections import namedtuple
 
-from . import Fault
+from . import Misuse
 
 RESET, WRITE, READ, TICK, NEW_TAG = range(5)
 ANY = None  # a byte to be read, whatever it is
@@ -46,11 +46,11 @@ def parse(text, name):
                 check(frame, not frames)
                 frames.append(frame)
         except ValueError as error:
-            raise Fault(f"{name}, line {number}: {error}") from None
+            raise Misuse(f"{name}, line {number}: {error}") from None
     if not frames:
-        raise Fault(f"{name}: no frame; a session begins with 04, the code and eight ROM bytes")
+        raise Misuse(f"{name}: no frame; a session begins with 04, the code and eight ROM bytes")
     if sum(map(events_in, frames)) > LARGEST_SESSION:
-        raise Fault(f"{name}: more than {LARGEST_SESSION:,} events")
+        raise Misuse(f"{name}: more than {LARGEST_SESSION:,} events")
     return frames
 
 
@@ -126,8 +126,6 @@ def strict(frames, answers):
 
 def disagreements(frames, answers):
     """A sentence for each byte that was given and is not what the tag sent."""
-    for frame, answer in zip(frames, answers):
-        if frame.kind == READ:
-            for at, (given, sent) in enumerate(zip(frame.data * frame.times, answer), 1):
-                if given is not ANY and given != sent:
-                    yield f"line {frame.line}, byte {at} read: the tag sent {sent:02X}, the session says {given:02X}"
+    return [f"line {frame.line}, byte {at} read: the tag sent {sent:02X}, the session says {given:02X}"
+            for frame, answer in zip(frames, answers) if frame.kind == READ
+            for at, (given, sent) in enumerate(zip(frame.data * frame.times, answer), 1) if given is not ANY and given != sent]
