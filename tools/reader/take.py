@@ -1,7 +1,7 @@
 """Taking a dump from a real tag, through the Linux kernel's 1-Wire subsystem. Nothing here is proved.
 
-A slave's `rw` file is the line: each write is a reset, Skip ROM (beside other slaves Match ROM) and the bytes; each read goes on
-from there, with no reset. Only Read Memory and Read Scratchpad are ever sent, and neither changes a tag.
+A slave's file rw is the line: each write is a reset, Skip ROM (beside other slaves Match ROM) and the bytes; each read goes
+on from there, with no reset. Only Read Memory and Read Scratchpad are ever sent, and neither changes a tag.
 """
 
 import errno
@@ -39,7 +39,8 @@ class Slave:
         self.name = os.path.basename(folder)
         family, number = (int(part, 16) for part in SLAVE_NAME.fullmatch(self.name).groups())
         if family != FAMILY:
-            raise Fault(f"{self.name} is {OTHER_FAMILIES.get(family, 'no DS1922')}: its family is {family:02X}h, a DS1922's 41h")
+            part = OTHER_FAMILIES.get(family, "no DS1922")
+            raise Fault(f"{self.name} is {part}: its family is {family:02X}h, and a DS1922's 41h")
         self.rom = with_crc8(bytes((family,)) + number.to_bytes(6, "little"))
         self.file = self.opened(folder)
 
@@ -69,7 +70,7 @@ class Slave:
                 raise Fault(f"{self.name} was taken away: the kernel no longer has it") from None
             raise Fault(f"can't use the file rw of {self.name}: {reason(error)}") from None
         if written != len(command) or len(answer) != count:
-            raise Fault(f"the file rw of {self.name} took {written} of {len(command)} bytes and gave {len(answer)} of {count}: "
+            raise Fault(f"the file rw of {self.name} took {written} of {len(command)} bytes and gave {len(answer)} of {count}; "
                         "is it the kernel's?")
         return answer
 
@@ -79,7 +80,7 @@ def folder_of(device):
     path = os.path.join(SLAVES, device) if SLAVE_NAME.fullmatch(device) else os.path.realpath(device)
     folder = os.path.dirname(path) if os.path.basename(path) == "rw" else path
     if not SLAVE_NAME.fullmatch(os.path.basename(folder)):
-        raise Fault(f"'{device}' is no 1-Wire slave: say its name, as 41-000000fbc52b, its folder or its file rw ({present()})")
+        raise Fault(f"'{device}' is no 1-Wire slave; say its name, as 41-000000fbc52b, its folder or its file rw ({present()})")
     return folder
 
 
@@ -145,7 +146,7 @@ def words_for(reasons, given):
     if reasons == [REFUSING] * TIMES:
         return "the tag gives no more pages; was another laid in its place?" if given else "the password is wrong"
     if reasons[-1] == ABSENT:
-        return f"no answer; {'the tag was taken away' if given else 'no tag is there, or no contact, or its battery is empty'}"
+        return "no answer; " + ("the tag was taken away" if given else "no tag is there, no contact, or its battery is empty")
     return f"read {TIMES} times, and never with a right CRC; is the contact good, and no other program on the line?"
 
 
@@ -201,7 +202,7 @@ def check_code(slave, pages):
 
 
 def steady(pages):
-    """The registers that stay while no conversion is made: all but the clock (0200h-0205h) and the start delay (0216h-0218h)."""
+    """The registers that stay while no conversion is made: all but the clock, 0200h-0205h, and the start delay, 0216h-0218h."""
     held = registers(pages)
     return held[0x06:0x16] + held[0x19:]
 
