@@ -1,8 +1,23 @@
-"""The reader: readable sessions, dumps, tables and pictures over the programs `play` and `list`. Nothing here is proved."""
+"""The reader: readable sessions, dumps, tables, pictures and reports over the programs `play` and `list`. Nothing here is
+proved."""
+
+# The exit statuses of every command, of reader and of run.
+DONE, REFUSED, MISUSED, FAILED = range(4)
 
 
 class Fault(Exception):
-    """What a person is told, in one line, when something can't be done; no words where he has been told already."""
+    """What a person is told, in one line, when something could not be done; no words where he has been told already."""
+    status = FAILED
+
+
+class Refusal(Fault):
+    """The tag or the dock said no."""
+    status = REFUSED
+
+
+class Misuse(Fault):
+    """Wrong words, or a file that is not what the command takes."""
+    status = MISUSED
 
 
 def reason(error):

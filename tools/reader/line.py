@@ -1,11 +1,8 @@
 """Driving the program `play`: frames to events, line bits to bytes, and the dump by Read Memory, slot by slot."""
 
-import os
-import re
-import subprocess
-
-from . import Fault, reason
+from . import Fault, Refusal
 from .listing import REFUSALS
+from .programs import REFUSAL, run
 from .sessions import ANY, READ, RESET, TICK, WRITE, Frame, events_in
 
 MATCH_ROM, READ_MEMORY = 0x55, 0x69
@@ -42,27 +39,14 @@ def play(command, frames, name):
     return answers
 
 
-def run(command, stdin):
-    """What a program writes on its standard output."""
-    try:
-        done = subprocess.run(command, input=stdin, stdout=subprocess.PIPE)
-    except OSError as error:
-        raise Fault(f"can't run '{command[0]}': {reason(error)}") from None
-    if done.returncode == 2 and os.path.basename(command[0]) == "run":  # our own script, which says why
-        raise Fault
-    if done.returncode:
-        raise Fault(f"'{' '.join(command)}' ended with status {done.returncode}")
-    return done.stdout
-
-
 def check_answers(output, frames, name):
     """Each event has its answer, 0 or 1 and a line feed; a refusal is told with the frame that it came for."""
     total = sum(map(events_in, frames[1:]))
-    refusal = re.fullmatch(rb"R([0-9]{2})\n", output[-4:])
+    refusal = REFUSAL.fullmatch(output)
     if refusal:
         answered, number = len(output[:-4]) // 2, int(refusal[1])
         line = frames[0].line if not answered else line_of_event(frames, answered)
-        raise Fault(f"{name}, line {line}: the tag refused with {number:02d}: {REFUSALS.get(number, 'no known refusal')}")
+        raise Refusal(f"{name}, line {line}: the tag refused with {number:02d}: {REFUSALS.get(number, 'no known refusal')}")
     if len(output) != 2 * total or output[::2].strip(b"01") or output[1::2].strip(b"\n"):
         raise Fault(f"'play' did not answer each of the {total:,} events of {name} with 0 or 1")
 
@@ -86,16 +70,16 @@ def dump_frames(rom, password):
 
 
 def take_dump(command, frames, password, name):
-    """Plays a session, then reads the 258 pages over the line: the dump's text."""
+    """Plays a session, then reads the 258 pages over the line: the dump's text, and the bytes that the session's frames read."""
     rom = frames[0].data[1:]
-    answers = play(command, [*frames, *dump_frames(rom, password)], name)[len(frames):]
+    answers = play(command, [*frames, *dump_frames(rom, password)], name)
     lines = []
-    for page, sent in zip(PAGES, answers[2::3]):
+    for page, sent in zip(PAGES, answers[len(frames) + 2::3]):
         command_bytes = bytes((READ_MEMORY, page & 0xFF, page >> 8))
         if crc16(command_bytes + sent[:PAGE_BYTES]) ^ 0xFFFF != int.from_bytes(sent[PAGE_BYTES:], "little"):
-            raise Fault(f"{name}: the tag did not give page {page:04X}h: is the password right?")
+            raise Refusal(f"{name}: the tag did not give page {page:04X}h: is the password right?")
         lines.append(f"{page:04X}{sent.hex().upper()}\n")
-    return "".join(lines)
+    return "".join(lines), answers[:len(frames)]
 
 
 def crc16(data):

@@ -4,7 +4,7 @@ import re
 from collections import namedtuple
 from datetime import datetime, timedelta
 
-from . import Fault
+from . import Misuse, Refusal
 
 REFUSALS = {
     1: "an event code above 3",
@@ -42,19 +42,19 @@ def parse(text, name):
     refusal = REFUSAL.fullmatch(lines[0])
     if refusal:
         number = int(refusal[1])
-        raise Fault(f"{name}: the dock refused the dump with {number:02d}: {REFUSALS.get(number, 'no known refusal')}")
+        raise Refusal(f"{name}: the dock refused the dump with {number:02d}: {REFUSALS.get(number, 'no known refusal')}")
     head = HEAD.fullmatch(lines[0])
     if not head or int(head[1], 16) not in DEVICES:
-        raise Fault(f"{name}, line 1: not a listing's first line (code 40 or 60, number held, stamp: 22 digits)")
+        raise Misuse(f"{name}, line 1: not a listing's first line (code 40 or 60, number held, stamp: 22 digits)")
     if lines[-1] or len(lines) - 2 != int(head[2], 16):
-        raise Fault(f"{name}: its first line says {counted(int(head[2], 16))}, and it has {max(0, len(lines) - 2):,}")
+        raise Misuse(f"{name}: its first line says {counted(int(head[2], 16))}, and it has {max(0, len(lines) - 2):,}")
     return Listing(int(head[1], 16), bytes.fromhex(head[3]), [entry_of(line, at, name) for at, line in enumerate(lines[1:-1], 2)])
 
 
 def entry_of(line, number, name):
     parts = ENTRY.fullmatch(line)
     if not parts:
-        raise Fault(f"{name}, line {number}: not an entry (k, seconds, temperature: 28 digits)")
+        raise Misuse(f"{name}, line {number}: not an entry (k, seconds, temperature: 28 digits)")
     return Entry(int(parts[1], 16), signed(parts[2]), signed(parts[3]))
 
 

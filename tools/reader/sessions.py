@@ -14,7 +14,7 @@ case pairs alone, a line for each frame, 64 bytes at most in a line.
 import re
 from collections import namedtuple
 
-from . import Fault
+from . import Misuse
 
 RESET, WRITE, READ, TICK, NEW_TAG = range(5)
 ANY = None  # a byte to be read, whatever it is
@@ -46,11 +46,11 @@ def parse(text, name):
                 check(frame, not frames)
                 frames.append(frame)
         except ValueError as error:
-            raise Fault(f"{name}, line {number}: {error}") from None
+            raise Misuse(f"{name}, line {number}: {error}") from None
     if not frames:
-        raise Fault(f"{name}: no frame; a session begins with 04, the code and eight ROM bytes")
+        raise Misuse(f"{name}: no frame; a session begins with 04, the code and eight ROM bytes")
     if sum(map(events_in, frames)) > LARGEST_SESSION:
-        raise Fault(f"{name}: more than {LARGEST_SESSION:,} events")
+        raise Misuse(f"{name}: more than {LARGEST_SESSION:,} events")
     return frames
 
 

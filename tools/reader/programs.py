@@ -1,0 +1,59 @@
+"""Running the programs `play` and `list`, or others in their place, and which builds of them there are."""
+
+import hashlib
+import os
+import re
+import subprocess
+from collections import namedtuple
+
+from . import MISUSED, REFUSED, Fault, Misuse, reason
+
+TOP = os.path.dirname(os.path.dirname(os.path.dirname(os.path.realpath(__file__))))
+RUN = os.path.join(TOP, "run")
+PLAY, LIST = [RUN, "play"], [RUN, "list"]
+REFUSAL = re.compile(rb"(?:.*\n)?R([0-9]{2})\n", re.S)  # how a program's output ends that refuses
+BUILD = re.compile(r"run: (\w+): (\S+), (proved|NOT PROVED).*")
+
+# proved: None of a program that is not ours
+Build = namedtuple("Build", "program path proved digest")
+
+
+def run(command, stdin):
+    """What a program writes on its standard output; a refusal is among it."""
+    try:
+        done = subprocess.run(command, input=stdin, stdout=subprocess.PIPE)
+    except OSError as error:
+        raise Fault(f"can't run '{command[0]}': {reason(error)}") from None
+    if done.returncode and not (done.returncode == REFUSED and REFUSAL.fullmatch(done.stdout)):
+        if os.path.realpath(command[0]) == RUN:  # our own script, which says why
+            raise Misuse if done.returncode == MISUSED else Fault
+        raise Fault(f"'{' '.join(command)}' ended with status {done.returncode}")
+    return done.stdout
+
+
+def build_of(command):
+    """Which build a command runs; ours is built where that is needed."""
+    if command not in (PLAY, LIST):
+        return Build(" ".join(command), None, None, None)
+    said = BUILD.fullmatch(run([RUN, "--build", command[1]], b"").decode().strip())
+    if not said:
+        raise Fault(f"./run --build {command[1]} did not say which build there is")
+    with open(os.path.join(TOP, said[2]), "rb") as file:
+        return Build(said[1], said[2], said[3] == "proved", hashlib.sha256(file.read()).hexdigest())
+
+
+def build_words(build):
+    if build.proved is None:
+        return f"'{build.program}', another program than the project's: nothing is known of it here"
+    how = "a proved build" if build.proved else "a build that is NOT PROVED"
+    return f"{build.program}, {how} ({build.path}, SHA-256 {build.digest})"
+
+
+def revision():
+    """Of this repository, where git can tell."""
+    try:
+        said = subprocess.run(["git", "-C", TOP, "describe", "--always", "--dirty"], stdin=subprocess.DEVNULL,
+                              stdout=subprocess.PIPE, stderr=subprocess.DEVNULL)
+    except OSError:
+        return "unknown"
+    return said.stdout.decode("ascii", "replace").strip() or "unknown"
