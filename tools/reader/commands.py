@@ -4,7 +4,7 @@ import os
 import sys
 from collections import namedtuple
 
-from . import DONE, FAILED, REFUSED, Fault, Misuse, files, line, listing, options, password, picture, programs, sessions
+from . import DONE, FAILED, REFUSED, Fault, Misuse, files, line, listing, options, password, picture, programs, sessions, take
 from .files import say
 
 USAGE = """reader COMMAND ..      (nothing of the reader is proved; the programs play and list that it drives are, by .ci/run)
@@ -44,6 +44,14 @@ def record(given):
     _, frames, answers = played(given)
     files.write(given.output, "".join(sessions.strict(frames, answers)))
     return judged(given, frames, answers)
+
+
+def take_dump(given):
+    with take.Slave(given.file) as slave:
+        text = take.dump(slave, password.ask(given), say)
+    files.write(given.output, text)
+    say(f"{slave.name}: all {len(line.PAGES)} pages; by the kernel's word its registration number is {slave.rom.hex().upper()}")
+    return DONE
 
 
 def dump(given):
@@ -118,6 +126,8 @@ COMMANDS = {
     "play": Command(play, "SESSION", "plays a session to a new tag and prints it with the bytes read filled in",
                     (options.output, options.play_program)),
     "record": Command(record, "SESSION", "the same, in the strict form of a recording", (options.output, options.play_program)),
+    "take": Command(take_dump, "DEVICE", "reads a real tag's dump through the kernel's 1-Wire files (docs/TAKE.md)",
+                    (options.secret, options.output)),
     "dump": Command(dump, "SESSION", "plays a session, then reads the dump over the line, by Read Memory",
                     (options.secret, options.output, options.play_program)),
 }

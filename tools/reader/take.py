@@ -10,7 +10,7 @@ import re
 import sys
 import time
 
-from . import Fault, reason
+from . import Fault, Misuse, Refusal, reason
 from .line import CRC_BYTES, PAGE_BYTES, PAGES, READ_MEMORY, crc16
 from .listing import DEVICES
 
@@ -40,7 +40,7 @@ class Slave:
         family, number = (int(part, 16) for part in SLAVE_NAME.fullmatch(self.name).groups())
         if family != FAMILY:
             part = OTHER_FAMILIES.get(family, "no DS1922")
-            raise Fault(f"{self.name} is {part}: its family is {family:02X}h, and a DS1922's 41h")
+            raise Misuse(f"{self.name} is {part}: its family is {family:02X}h, and a DS1922's 41h")
         self.rom = with_crc8(bytes((family,)) + number.to_bytes(6, "little"))
         self.file = self.opened(folder)
 
@@ -55,7 +55,10 @@ class Slave:
         except OSError as error:
             raise Fault(f"can't open {path}: {reason(error)}") from None
 
-    def close(self):
+    def __enter__(self):
+        return self
+
+    def __exit__(self, *_):
         os.close(self.file)
 
     def ask(self, command, count):
@@ -80,7 +83,7 @@ def folder_of(device):
     path = os.path.join(SLAVES, device) if SLAVE_NAME.fullmatch(device) else os.path.realpath(device)
     folder = os.path.dirname(path) if os.path.basename(path) == "rw" else path
     if not SLAVE_NAME.fullmatch(os.path.basename(folder)):
-        raise Fault(f"'{device}' is no 1-Wire slave; say its name, as 41-000000fbc52b, its folder or its file rw ({present()})")
+        raise Misuse(f"'{device}' is no 1-Wire slave; say its name, as 41-000000fbc52b, folder or file rw ({present()})")
     return folder
 
 
@@ -116,7 +119,7 @@ def read_page(slave, page, password, given):
         if is_right(command, answer):
             return answer
         reasons.append(why_not(slave, answer))
-    raise Fault(f"{slave.name}, page {page:04X}h: {words_for(reasons, given)}")
+    raise fault(reasons, given, f"{slave.name}, page {page:04X}h")
 
 
 def is_right(command, answer):
@@ -141,30 +144,21 @@ def is_silent(answer):
     return not answer.strip(b"\xFF")
 
 
-def words_for(reasons, given):
-    """Why a page did not come in all its times. A password is called wrong only if nothing else was ever in the way."""
+def fault(reasons, given, where):
+    """What a person is told of a page that never came. A password is called wrong only if nothing else was ever in the way."""
     if reasons == [REFUSING] * TIMES:
-        return "the tag gives no more pages; was another laid in its place?" if given else "the password is wrong"
+        words = "the tag gives no more pages; was another laid in its place?" if given else "the password is wrong"
+        return Refusal(f"{where}: {words}")
     if reasons[-1] == ABSENT:
-        return "no answer; " + ("the tag was taken away" if given else "no tag is there, no contact, or its battery is empty")
-    return f"read {TIMES} times, and never with a right CRC; is the contact good, and no other program on the line?"
+        words = "the tag was taken away" if given else "no tag is there, no contact, or its battery is empty"
+        return Fault(f"{where}: no answer; {words}")
+    return Fault(f"{where}: read {TIMES} times, never with a right CRC; is the contact poor, or another program on the line?")
 
 
 # ---- The dump ----
 
-def take(device, password, say):
-    """The dump's text; `say` tells a person what goes on."""
-    slave = Slave(device)
-    try:
-        text = dump_of(slave, password, say)
-    finally:
-        slave.close()
-    say(f"{slave.name}: all {len(PAGES)} pages; by the kernel's word its registration number is {slave.rom.hex().upper()}")
-    return text
-
-
-def dump_of(slave, password, say):
-    """A dump of one moment: if a conversion was made while the pages were read, all are read again."""
+def dump(slave, password, say):
+    """The dump's text, of one moment: if a conversion was made while the pages were read, all are read again, which is told."""
     for turn in range(TIMES):
         if turn:
             say(f"{slave.name}: its mission went on while it was read; reading it again ..")
@@ -197,8 +191,8 @@ def registers(pages):
 def check_code(slave, pages):
     code = registers(pages)[0x26]
     if code not in DEVICES:
-        raise Fault(f"{slave.name} is {OTHER_CODES.get(code, 'no DS1922L or DS1922T')}: its code at 0226h is {code:02X}h, "
-                    "not 40h (DS1922L) or 60h (DS1922T)")
+        part = OTHER_CODES.get(code, "no DS1922L or DS1922T")
+        raise Misuse(f"{slave.name} is {part}: its code at 0226h is {code:02X}h, not 40h (DS1922L) or 60h (DS1922T)")
 
 
 def steady(pages):
