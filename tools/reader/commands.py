@@ -4,13 +4,18 @@ import os
 import sys
 from collections import namedtuple
 
-from . import DONE, FAILED, REFUSED, Fault, Misuse, files, line, listing, options, password, picture, programs, sessions, take
+from . import (DONE, FAILED, REFUSED, Fault, Misuse, dumps, export, files, line, listing, mend, options, password, picture,
+               programs, report, sessions, source, table, take, view)
 from .files import say
+
+MOST_DISAGREEMENTS = 10  # that are told one by one
 
 USAGE = """reader COMMAND ..      (nothing of the reader is proved; the programs play and list that it drives are, by .ci/run)
 
 {commands}
 
+FILE is a session, a dump, or a listing (what the program list prints), which show, table, picture and report tell apart; - is
+standard input.
 reader COMMAND --help says what else a command takes; reader --version which revision this is.
 Exit status of every command: 0 done; 1 refused, by the tag or the dock; 2 used wrongly; 3 could not be done.
 docs/READER.md says more; examples/README.md has sessions and how they are written."""
@@ -62,56 +67,82 @@ def dump(given):
     return judged(given, frames, answers)
 
 
-def table(given):
-    entries = read_listing(given)
-    files.write(given.output, table_text(entries, listing.Thresholds(given.low, given.high)))
-    return DONE
+def seen(given):
+    """What a file holds, and how it is to be shown."""
+    found = source.load(given)
+    return found, view.View(found.listing, given.fahrenheit, given.zone, given.clock)
 
 
-def read_listing(given):
-    name = files.name_of(given.file)
-    return listing.parse(files.text_of(files.read(given.file), name), name)
+def told(found):
+    """Whether the tag sent every byte that the session gives; the first others are told."""
+    for sentence in found.disagreements[:MOST_DISAGREEMENTS]:
+        say(f"{found.name}, {sentence}")
+    if len(found.disagreements) > MOST_DISAGREEMENTS:
+        say(f"{found.name}: and {len(found.disagreements) - MOST_DISAGREEMENTS:,} other bytes read")
+    return REFUSED if found.disagreements else DONE
 
 
-def table_text(entries, thresholds):
-    return "".join(f"{row}\n" for row in listing.table(entries, thresholds))
+def print_table(given):
+    found, how = seen(given)
+    make = export.csv_text if given.csv else export.json_text if given.json else table.table
+    files.write(given.output, make(found, how))
+    return told(found)
 
 
 def draw(given):
-    entries = read_listing(given)
-    files.write(given.output, picture.svg(entries, listing.Thresholds(given.low, given.high)))
-    return DONE
+    found, how = seen(given)
+    files.write(given.output, picture.svg(found, how))
+    return told(found)
+
+
+def make_report(given):
+    found, how = seen(given)
+    files.write(given.output, report.html(found, how, given.note))
+    return told(found)
 
 
 def show(given):
     """The main job, with every step told on standard error; the table alone goes to standard output."""
-    name = files.name_of(given.file)
-    frames = sessions.parse(files.text_of(files.read(given.file), name), name)
-    say(f"playing {name}: {sum(map(sessions.events_in, frames[1:])):,} events, "
-        f"then {len(line.PAGES)} pages by Read Memory ..")
-    text, answers = line.take_dump(given.play, frames, password.ask(given), name)
-    say("listing the dump ..")
-    listed = programs.run(given.list_, text.encode()).decode("ascii", "replace")
-    entries = listing.parse(listed, f"the dump of {name}")
-    thresholds = listing.thresholds_in(text)
-    rows = table_text(entries, thresholds)
-    folder = given.output or os.path.join(programs.TOP, "target", "shown")
-    paths = save(folder, given.file, (
-        ("dump", text), ("listing", listed), ("table", rows), ("svg", picture.svg(entries, thresholds))))
-    files.write(None, rows)
-    say(f"wrote {', '.join(paths[:-1])}")
-    say(f"the picture is {paths[-1]}: open it in a browser")
-    return judged(given, frames, answers)
+    found, how = seen(given)
+    whole = table.table(found, how)
+    parts = {"listing": found.listed, "table": whole, "svg": picture.svg(found, how), "html": report.html(found, how)}
+    if found.kind == source.SESSION:
+        parts["dump"] = found.dump.decode("ascii")
+    paths = save(given.output or os.path.join(programs.TOP, "target", "shown"), given.file, parts)
+    if len(found.listing.entries) > table.MOST_ROWS:
+        whole = f"{table.table(found, how, rows=False)}\nAll {len(found.listing.entries):,} rows: {paths['table']}\n"
+    files.write(None, whole)
+    say(f"the picture is {paths['svg']}, the page for an inspector {paths['html']}: open them in a browser")
+    return told(found)
 
 
-def save(folder, session, parts):
-    """Writes each part beside the others, by the session's name; returns the paths."""
+def save(folder, path, parts):
+    """Writes each part beside the others, by the file's name and its own; returns the paths."""
     files.make_folder(folder)
-    name = "session" if session == files.STANDARD else os.path.splitext(os.path.basename(session))[0]
-    paths = [files.short(os.path.join(folder, f"{name}.{ending}")) for ending, _ in parts]
-    for path, (_, text) in zip(paths, parts):
-        files.write(path, text)
+    name = "shown" if path == files.STANDARD else os.path.splitext(os.path.basename(path))[0]
+    paths = {ending: files.short(os.path.join(folder, f"{name}.{ending}")) for ending in parts}
+    for ending, text in parts.items():
+        files.write(paths[ending], text)
     return paths
+
+
+def mend_dump(given):
+    """What was taken away is told, and then the dock's word on what is left, which is the program's."""
+    data, name = files.read(given.file), files.name_of(given.file)
+    if given.file != files.STANDARD and os.path.exists(given.output) and os.path.samefile(given.file, given.output):
+        raise Misuse("NEW is the same file: a dump as it came is evidence, and stays")
+    if source.kind_of(data, name) != source.DUMP:
+        raise Misuse(f"{name} is no dump")
+    mended, found = mend.mended(data)
+    files.write_bytes(given.output, mended)
+    for sentence in found or ["nothing of what an editor or a mail program adds: the new file is the same"]:
+        say(f"{name}: {sentence}")
+    say(f"wrote {given.output}")
+    refusal = programs.REFUSAL.fullmatch(programs.run(given.list_, mended))
+    if refusal:
+        raise listing.refused(given.output, int(refusal[1]), dumps.explain(int(refusal[1]), mended))
+    say(f"the dock takes {given.output}: reader show {given.output}")
+    return DONE
 
 
 # ---- The command line ----
@@ -119,10 +150,15 @@ def save(folder, session, parts):
 # What does it, what it takes ([FILE]: or standard input), what it is for, and its options by groups (options.py).
 Command = namedtuple("Command", "does takes about groups")
 COMMANDS = {
-    "show": Command(show, "SESSION", "all of it: plays, takes the dump, lists it, prints the table, draws the picture",
-                    (options.secret, options.folder, options.play_program, options.list_program)),
-    "table": Command(table, "[LISTING]", "a listing (what the program list prints) as a table", (options.thresholds, options.output)),
-    "picture": Command(draw, "[LISTING]", "a listing as a picture, SVG", (options.thresholds, options.output)),
+    "show": Command(show, "[FILE]", "all of it: prints the table, writes the picture and the page for an inspector",
+                    (options.secret, options.seen, options.folder)),
+    "table": Command(print_table, "[FILE]", "the table alone, or CSV or JSON",
+                     (options.secret, options.seen, options.exports, options.output)),
+    "picture": Command(draw, "[FILE]", "the picture alone, SVG", (options.secret, options.seen, options.output)),
+    "report": Command(make_report, "[FILE]", "one page for an inspector, HTML, for screen and paper",
+                      (options.secret, options.seen, options.note, options.output)),
+    "mend": Command(mend_dump, "[DUMP]", "takes away what a text editor or a mail program added to a dump, and nothing else",
+                    (options.new_file, options.list_program)),
     "play": Command(play, "SESSION", "plays a session to a new tag and prints it with the bytes read filled in",
                     (options.output, options.play_program)),
     "record": Command(record, "SESSION", "the same, in the strict form of a recording", (options.output, options.play_program)),

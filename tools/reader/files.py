@@ -63,15 +63,21 @@ def text_of(data, name):
 # ---- Out ----
 
 def write(path, text):
-    """To a file, which is there whole or as it was before; to standard output if there is no path."""
+    """To a file, or to standard output if there is no path."""
     if path in (None, STANDARD):
-        return to_standard_output(text)
+        to_standard_output(text)
+    else:
+        write_bytes(path, text.encode())
+
+
+def write_bytes(path, data):
+    """To a file, which is then there whole, or as it was before."""
     try:
         if os.path.exists(path) and not os.path.isfile(path):  # a device or a pipe takes what comes; a folder is told
             with open(path, "wb") as file:
-                file.write(text.encode())
+                file.write(data)
         else:
-            replace(os.path.realpath(path), text.encode())
+            replace(os.path.realpath(path), data)
     except (OSError, ValueError) as error:
         words = reason(error) if isinstance(error, OSError) else str(error)
         raise Fault(f"can't write {path}: {words}") from None

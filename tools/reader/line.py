@@ -5,6 +5,7 @@ from .listing import REFUSALS
 from .programs import REFUSAL, run
 from .sessions import ANY, READ, RESET, TICK, WRITE, Frame, events_in
 
+FAMILY = 0x41  # the first ROM byte of a DS1922
 MATCH_ROM, READ_MEMORY = 0x55, 0x69
 PAGES = (0x0200, 0x0220, *range(0x1000, 0x3000, 32))  # of a dump, in its order
 PAGE_BYTES, CRC_BYTES = 32, 2
@@ -82,11 +83,22 @@ def take_dump(command, frames, password, name):
     return "".join(lines), answers[:len(frames)]
 
 
+# ---- CRCs ----
+
 def crc16(data):
     """x^16+x^15+x^2+1, low bit first, from 0."""
-    crc = 0
+    return crc(data, 0xA001)
+
+
+def crc8(data):
+    """x^8+x^5+x^4+1, low bit first, from 0."""
+    return crc(data, 0x8C)
+
+
+def crc(data, polynomial):
+    value = 0
     for byte in data:
-        crc ^= byte
+        value ^= byte
         for _ in range(8):
-            crc = crc >> 1 ^ (0xA001 if crc & 1 else 0)
-    return crc
+            value = value >> 1 ^ (polynomial if value & 1 else 0)
+    return value

@@ -3,7 +3,8 @@
 import argparse
 import shlex
 
-from . import Misuse, files, listing, password, programs
+from . import Misuse, files, listing, password, programs, view
+from .line import FAMILY, crc8
 
 STATUSES = "Exit status: 0 done; 1 refused, by the tag or the dock; 2 used wrongly; 3 could not be done."
 
@@ -24,7 +25,10 @@ def parse(name, command, words):
     parser.add_argument("file", metavar=command.takes.strip("[]"), nargs="?" if optional else None, default=files.STANDARD)
     for add in command.groups:
         add(parser)
-    return parser.parse_args(words)
+    given = parser.parse_args(words)
+    if None not in (getattr(given, "low", None), getattr(given, "high", None)) and given.low > given.high:
+        raise Misuse("--low is above --high")
+    return given
 
 
 # ---- Groups ----
@@ -37,9 +41,30 @@ def folder(parser):
     parser.add_argument("-o", "--output", metavar="FOLDER", help="where to write the files (target/shown)")
 
 
-def thresholds(parser):
-    parser.add_argument("--low", metavar="DEGREES", type=threshold, help="an alarm's threshold to mark, in °C")
+def seen(parser):
+    """For what a file is shown as: a session, a dump or a listing, with what only the person knows."""
+    parser.add_argument("--rom", metavar="NUMBER", type=rom, help="the tag's registration number, which a dump does not have: 16 digits")
+    parser.add_argument("--low", metavar="DEGREES", type=threshold, help="a threshold to mark, in °C; else the dump's own")
     parser.add_argument("--high", metavar="DEGREES", type=threshold, help="the same")
+    parser.add_argument("--fahrenheit", action="store_true", help="degrees Fahrenheit too")
+    parser.add_argument("--zone", type=view.zone_name, help="times in a zone too, as UTC+02:00 or Europe/Paris")
+    parser.add_argument("--clock", metavar="ZONE", type=view.zone_name, default="UTC", help="what the tag's clock was set to (UTC)")
+    play_program(parser)
+    list_program(parser)
+
+
+def exports(parser):
+    form = parser.add_mutually_exclusive_group()
+    form.add_argument("--csv", action="store_true", help="as comma-separated values, for a spreadsheet")
+    form.add_argument("--json", action="store_true", help="as JSON, for another program")
+
+
+def note(parser):
+    parser.add_argument("--note", metavar="TEXT", help="words to stand on the page: bag, grower, lot")
+
+
+def new_file(parser):
+    parser.add_argument("-o", "--output", metavar="NEW", required=True, help="where to write: another file than the one given")
 
 
 def play_program(parser):
@@ -55,6 +80,17 @@ secret = password.add_options
 
 
 # ---- Types ----
+
+def rom(text):
+    """A registration number's eight bytes, family first, as a session's first frame has them."""
+    try:
+        number = bytes.fromhex(text)
+    except ValueError:
+        number = b""
+    if len(number) != 8 or number[0] != FAMILY or crc8(number[:7]) != number[7]:
+        raise argparse.ArgumentTypeError(f"'{text}' is no registration number: 16 digits, the first two 41, the last two their CRC-8")
+    return number
+
 
 def program(text):
     try:

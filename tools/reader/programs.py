@@ -33,20 +33,13 @@ def run(command, stdin):
 
 def build_of(command):
     """Which build a command runs; ours is built where that is needed."""
-    if command not in (PLAY, LIST):
+    if [os.path.realpath(command[0]), *command[1:]] not in (PLAY, LIST):
         return Build(" ".join(command), None, None, None)
     said = BUILD.fullmatch(run([RUN, "--build", command[1]], b"").decode().strip())
     if not said:
         raise Fault(f"./run --build {command[1]} did not say which build there is")
     with open(os.path.join(TOP, said[2]), "rb") as file:
         return Build(said[1], said[2], said[3] == "proved", hashlib.sha256(file.read()).hexdigest())
-
-
-def build_words(build):
-    if build.proved is None:
-        return f"'{build.program}', another program than the project's: nothing is known of it here"
-    how = "a proved build" if build.proved else "a build that is NOT PROVED"
-    return f"{build.program}, {how} ({build.path}, SHA-256 {build.digest})"
 
 
 def revision():
