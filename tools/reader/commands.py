@@ -55,7 +55,7 @@ def take_dump(given):
     with take.Slave(given.file) as slave:
         text = take.dump(slave, password.ask(given), say)
     files.write(given.output, text)
-    say(f"{slave.name}: all {len(line.PAGES)} pages; by the kernel's word its registration number is {slave.rom.hex().upper()}")
+    say(f"{slave.name}: all {len(line.PAGES)} pages; its number, by the kernel's word: --rom {slave.rom.hex().upper()}")
     return DONE
 
 

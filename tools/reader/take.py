@@ -11,12 +11,11 @@ import sys
 import time
 
 from . import Fault, Misuse, Refusal, reason
-from .line import CRC_BYTES, PAGE_BYTES, PAGES, READ_MEMORY, crc16
+from .line import CRC_BYTES, FAMILY, PAGE_BYTES, PAGES, READ_MEMORY, crc8, crc16
 from .listing import DEVICES
 
 SLAVES = "/sys/bus/w1/devices"
 SLAVE_NAME = re.compile(r"([0-9a-f]{2})-([0-9a-f]{12})")
-FAMILY = 0x41
 OTHER_FAMILIES = {0x21: "a DS1921", 0x53: "a DS1925"}
 OTHER_CODES = {0x00: "a DS2422", 0x20: "a DS1923", 0x80: "a DS1922E"}
 
@@ -41,7 +40,8 @@ class Slave:
         if family != FAMILY:
             part = OTHER_FAMILIES.get(family, "no DS1922")
             raise Misuse(f"{self.name} is {part}: its family is {family:02X}h, and a DS1922's 41h")
-        self.rom = with_crc8(bytes((family,)) + number.to_bytes(6, "little"))
+        rom = bytes((family,)) + number.to_bytes(6, "little")
+        self.rom = rom + bytes((crc8(rom),))
         self.file = self.opened(folder)
 
     def opened(self, folder):
@@ -94,16 +94,6 @@ def present():
     except OSError:
         return f"there is no {SLAVES}: the kernel has no 1-Wire master"
     return f"there are: {', '.join(names)}" if names else "the kernel has none of family 41h"
-
-
-def with_crc8(data):
-    """Seven bytes of a registration number with its eighth: x^8+x^5+x^4+1, low bit first, from 0."""
-    crc = 0
-    for byte in data:
-        crc ^= byte
-        for _ in range(8):
-            crc = crc >> 1 ^ (0x8C if crc & 1 else 0)
-    return data + bytes((crc,))
 
 
 # ---- A page ----
