@@ -298,5 +298,11 @@ class Ticking(Kernel):
         return super().pwrite(data, offset)
 
 
+class GoneBetween(Ticking, Away):
+    """An entry falls due; and then, before all is read again, the tag is taken away."""
+    from_time = 260
+
+
 def kind(base, **more):
+    """A kind of Kernel with other numbers."""
     return type(base.__name__, (base,), more)

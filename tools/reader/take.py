@@ -31,7 +31,7 @@ ABSENT, REFUSING, DISTURBED = "absent", "refusing", "disturbed"
 # ---- The slave ----
 
 class Slave:
-    """A slave's rw file. Its driver takes no heed of the offset, but the file ends after 4,096 bytes: each call is at 0."""
+    """A slave's file rw. Its driver takes no heed of the offset, but the file ends after 4,096 bytes: each call is at 0."""
 
     def __init__(self, device):
         folder = folder_of(device)
@@ -43,6 +43,7 @@ class Slave:
         rom = bytes((family,)) + number.to_bytes(6, "little")
         self.rom = rom + bytes((crc8(rom),))
         self.file = self.opened(folder)
+        self.has_given = False  # whether a page has come: then the tag was there, and the password right
 
     def opened(self, folder):
         path = os.path.join(folder, "rw")
@@ -98,8 +99,8 @@ def present():
 
 # ---- A page ----
 
-def read_page(slave, page, password, given):
-    """A page's data and CRC as the tag sent them; `given` says whether the tag gave a page before."""
+def read_page(slave, page, password):
+    """A page's data and CRC as the tag sent them."""
     command = bytes((READ_MEMORY, page & 0xFF, page >> 8))
     reasons = []
     while len(reasons) < TIMES:
@@ -107,9 +108,10 @@ def read_page(slave, page, password, given):
             time.sleep(WAIT)
         answer = slave.ask(command + password, PAGE_BYTES + CRC_BYTES)
         if is_right(command, answer):
+            slave.has_given = True
             return answer
         reasons.append(why_not(slave, answer))
-    raise fault(reasons, given, f"{slave.name}, page {page:04X}h")
+    raise fault(reasons, slave.has_given, f"{slave.name}, page {page:04X}h")
 
 
 def is_right(command, answer):
@@ -134,13 +136,13 @@ def is_silent(answer):
     return not answer.strip(b"\xFF")
 
 
-def fault(reasons, given, where):
+def fault(reasons, has_given, where):
     """What a person is told of a page that never came. A password is called wrong only if nothing else was ever in the way."""
     if reasons == [REFUSING] * TIMES:
-        words = "the tag gives no more pages; was another laid in its place?" if given else "the password is wrong"
+        words = "the tag gives no more pages; was another laid in its place?" if has_given else "the password is wrong"
         return Refusal(f"{where}: {words}")
     if reasons[-1] == ABSENT:
-        words = "the tag was taken away" if given else "no tag is there, no contact, or its battery is empty"
+        words = "the tag was taken away" if has_given else "no tag is there, no contact, or its battery is empty"
         return Fault(f"{where}: no answer; {words}")
     return Fault(f"{where}: read {TIMES} times, never with a right CRC; is the contact poor, or another program on the line?")
 
@@ -166,7 +168,7 @@ def read_pages(slave, password):
     pages = []
     with Progress(slave.name, len(order)) as progress:
         for page in order:
-            pages.append(read_page(slave, page, password, bool(pages)))
+            pages.append(read_page(slave, page, password))
             progress.step()
             if len(pages) == 2:
                 check_code(slave, pages)
