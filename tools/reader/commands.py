@@ -135,8 +135,10 @@ def mend_dump(given):
         raise Misuse(f"{name} is no dump")
     mended, found = mend.mended(data)
     files.write_bytes(given.output, mended)
-    for sentence in found or ["nothing of what an editor or a mail program adds: the new file is the same"]:
-        say(f"{name}: {sentence}")
+    for sentence in found:
+        say(f"{name}: mended: {sentence}")
+    if not found:
+        say(f"{name}: nothing that an editor or a mail program adds: the new file is the same")
     say(f"wrote {given.output}")
     refusal = programs.REFUSAL.fullmatch(programs.run(given.list_, mended))
     if refusal:

@@ -97,7 +97,11 @@ def wrong_page(data):
 
 
 def numbered(data):
-    return enumerate(data.split(b"\n")[:LINES], 1)
+    """The lines with their numbers, by where they lie; one that is none, after the line that was refused, is left out."""
+    for number in range(1, LINES + 1):
+        line = data[(number - 1) * (DIGITS + 1):][:DIGITS]
+        if len(line) == DIGITS and not NO_DIGIT.search(line):
+            yield number, line
 
 
 def others(wrong):

@@ -34,7 +34,7 @@ def without_blank_end(data):
     if not found or not found[0]:
         return data, None
     number = data[:found.start()].count(b"\n") + 1
-    return data[:found.start()], f"a blank end follows line {number - 1}"
+    return data[:found.start()], f"blank lines follow line {number - 1}"
 
 
 def with_line_feed(data):

@@ -36,7 +36,7 @@ STYLE = """
     body { background: white } main { margin: 0; padding: 18px 14px; border: 0 }
     dl { grid-template-columns: 1fr; gap: 0 } dd { margin-bottom: 7px } h1 { font-size: 21px }
     .figures { grid-template-columns: 1fr 1fr } .figures b { font-size: 19px }
-    svg.desk { display: none } svg.phone { display: block }
+    svg.desk { display: none } svg.phone { display: block } .rows.wide { columns: 1; font-size: 11.5px } .wide td { white-space: normal }
   }
   @page { size: A4; margin: 15mm 14mm }
   @media print {

@@ -4,7 +4,7 @@ taken as it stands. Which of the three it is, it tells by how it begins."""
 import re
 from dataclasses import dataclass, field
 
-from . import Misuse, dumps, evidence, files, line, password, programs, sessions, summary
+from . import Fault, Misuse, dumps, evidence, files, line, password, programs, sessions, summary
 from .files import say
 from .listing import DEGREE, Listing, Thresholds, parse, refused
 
@@ -93,7 +93,10 @@ def list_dump(source, given):
     if refusal:
         raise refused(name, int(refusal[1]), dumps.explain(int(refusal[1]), source.dump))
     source.listed = output.decode("ascii", "replace")
-    source.listing = parse(source.listed, f"what '{source.builds[-1].program}' printed for {name}")
+    try:
+        source.listing = parse(source.listed, f"what '{source.builds[-1].program}' printed for {name}")
+    except Misuse as wrong:  # not the person's doing
+        raise Fault(str(wrong)) from None
     source.registers = dumps.registers(source.dump)
     source.period = source.registers.period
 

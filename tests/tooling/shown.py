@@ -1,0 +1,262 @@
+"""What is shown: odd logs, the figures, where it comes from, exports, Fahrenheit and zones, passwords, help."""
+
+import csv
+import hashlib
+import io
+import json
+import os
+import pty
+import random
+import re
+import sys
+import tempfile
+import zoneinfo
+from datetime import datetime, timedelta
+from html.parser import HTMLParser
+from xml.dom import minidom
+
+from .common import DONE, FAILED, LANDING, MISUSED, READER, REFUSED, TOP, content, listing, start
+
+sys.path.insert(0, os.path.join(TOP, "tools"))
+
+from reader import listing as listings
+from reader import summary
+
+ROM = "412BC5FB000000A1"
+VOID = {"meta", "br", "hr", "img", "link", "input"}
+DAY = [(k, 600 * k, 100 + k) for k in range(60)]
+FORMS = ("table", "picture", "report")
+
+
+def shown(word, *more, stdin=b""):
+    done = start([READER, word, *more], stdin)
+    return done.stdout.decode() if done.returncode == DONE else f"status {done.returncode}: {done.stderr.decode()}"
+
+
+# ---- Odd logs ----
+
+ODD = (
+    ("no entry", listing(stamp="000000000000"), "The log holds no entry."), ("one entry", listing((0, 0, 144)), "1 entry."),
+    ("entry 0 alone", listing((0, -600, 144), stamp="000000000000"), "which is zeros: no counted entry has set it"),
+    ("rollover", listing(*((k, 60 * k, 8 * (k % 99)) for k in range(5000, 13192))), "The 5,000 older entries were"),
+    ("a minute's period", listing(*((k, 60 * k, 8 * (k % 99)) for k in range(90))), "one every minute."),
+    ("a gap", listing(*(entry for entry in DAY if not 9 < entry[0] < 20)), "Entries are missing in 1 place"),
+    ("one entry twice", listing((3, 0, 5), (3, 0, 5)), "Entries are missing in 1 place"),
+    ("no date", listing(*DAY, stamp="003005321126"), "00 30 05 32 11 26, which is no date and time"),
+    ("no digits", listing(*DAY, stamp="0A3005121126"), "which is no date and time"),
+    ("the next century", listing(*DAY, stamp="003005129126"), "the stamp is 2126-11-12 05:30:00"),
+    ("centuries", listing(*((k, 982980 * k, k % 99) for k in range(8192))), "one every 11 d 9 h 3 min"),
+    ("out of the calendar", listing((16000000, 982980 * 16000000, 5)), "they lead out of the calendar"),
+    ("out of it in the middle", listing((0, 0, 5), (1, 2 ** 62, 5), (2, 60, 5)), "they lead out of the calendar"),
+)
+
+
+def odd_logs():
+    """Each is well-formed, and says in words what it can't show, in every zone and unit."""
+    for name, text, says in ODD:
+        for word in FORMS:
+            for more in ((), ("--fahrenheit", "--zone", "UTC-03:30")):
+                got = shown(word, "-", "--low", "-5", "--high", "20.5", *more, stdin=text)
+                yield f"the {word} of {name} {more}", says in got and well_formed(word, got), got[:300]
+
+
+def well_formed(word, text):
+    if word == "picture":
+        minidom.parseString(text.encode())
+    return word != "report" or Page(text).whole()
+
+
+class Page(HTMLParser):
+    """Whether every element that opens is closed, and nothing is loaded from elsewhere."""
+
+    def __init__(self, text):
+        super().__init__()
+        self.open, self.wrong = [], []
+        self.feed(text)
+        self.loads = re.findall(r"(?:src|href|action)=|@import|url\((?!#)|https?://(?!www\.w3\.org/2000/svg\")", text)
+
+    def handle_starttag(self, tag, attrs):
+        if tag not in VOID:
+            self.open.append(tag)
+
+    def handle_endtag(self, tag):
+        if not self.open or self.open.pop() != tag:
+            self.wrong.append(tag)
+
+    def whole(self):
+        return not (self.open or self.wrong or self.loads)
+
+
+# ---- The figures ----
+
+def figures():
+    """Against plain counting, on random logs."""
+    rng, wrong = random.Random(3), []
+    for _ in range(300):
+        first = rng.randrange(5)
+        ks = sorted(rng.sample(range(first, first + 60), rng.randrange(1, 50)))
+        entries = [listings.Entry(k, 300 * k, rng.randrange(-20, 60)) for k in ks]
+        bounds = listings.Thresholds(rng.choice((None, -8, 0, 16)), rng.choice((None, 16, 24, 56)))
+        found = summary.summary(listings.Listing(0x40, bytes(6), entries), bounds, 300)
+        degrees = {entry.k: entry.temperature for entry in entries}
+        above = [k for k in ks if bounds.high is not None and degrees[k] >= bounds.high]
+        below = [k for k in ks if bounds.low is not None and degrees[k] // 8 <= bounds.low // 8]
+        longest = max((n for k in above for n in range(1, 61) if all(k + i in above for i in range(n))), default=0)
+        expected = (min(degrees.values()), max(degrees.values()), sum(degrees.values()) / len(ks), len(above), len(below), longest)
+        got = (found.lowest.temperature, found.highest.temperature, found.mean, found.above, found.below, len(found.longest))
+        wrong += [] if got == expected else [(entries, bounds, got, expected)]
+    yield "the figures of random logs", not wrong, wrong[:1]
+    table = shown("table", "examples/landing.dump")
+    for words in ("Lowest                    2.5000 °C, entry 55, 2026-11-12 14:40:01", "Mean                      7.06 °C",
+                  "Time at or above 10.0 °C  1 h 50 min (11 entries)", "entry 24 to 34, 2026-11-12 09:30:01 to 2026-11-12 11:10:01",
+                  "A time at a threshold is entries times period, 10 min each"):
+        yield f"the landing's table: {words}", words in table, table[-900:]
+
+
+# ---- Where it comes from ----
+
+def evidence():
+    for path, more, tag in (("examples/landing.session", LANDING[1:], f"{ROM}, by the session"),
+                            ("examples/landing.dump", (), "number not known: a dump has no registration number"),
+                            ("examples/landing.dump", ("--rom", ROM), f"{ROM}, given with --rom"),
+                            ("examples/landing.listing", (), "number not known: a listing has no registration number")):
+        digest = hashlib.sha256(content(path)).hexdigest()
+        for word in FORMS:
+            got = shown(word, path, *more)
+            build = "a listing does not say which program" if path.endswith("listing") else "list, a "
+            for part in (tag, path, digest, build, f"{datetime.now():%Y-%m-%d} ", "by reader, revision "):
+                yield f"the {word} of {path} {more} has '{part}'", part in got, got[:1500]
+    with tempfile.TemporaryDirectory() as folder:
+        path = os.path.join(folder, "<b>&amp;\n'\".dump")
+        with open(path, "wb") as file:
+            file.write(content("examples/landing.dump"))
+        for word in FORMS:
+            got = shown(word, path, "--high", "11")
+            name = "<b>&amp;\\n'" if word == "table" else "&lt;b&gt;&amp;amp;\\n&#x27;"
+            yield f"the {word} of a file with an odd name", well_formed(word, got) and name in got, got[:1500]
+    page = shown("report", "examples/landing.dump", "--note", "<i>Bag 7</i>\nlot 3")
+    yield "a note", "&lt;i&gt;Bag 7&lt;/i&gt;\nlot 3" in page and "<i>" not in page, page[:1500]
+
+
+def thresholds():
+    for more, says in (((), "at or above 10.0 °C (high, set in the tag)."), (("--high", "11"), "11.0 °C (high, given with --high)"),
+                       (("--low", "3"), "10.0 °C (high, set in the tag) and at or below 3.0 °C (low, given with --low)"),
+                       (("--low", "3"), "so low is every temperature below 3.5 °C")):
+        for word in FORMS:
+            got = shown(word, "examples/landing.dump", *more)
+            yield f"the {word} with {more}", says in got.replace("\n", " "), got[:900]
+    got = shown("table", "examples/landing.listing")
+    yield "a listing without thresholds", "No threshold is known" in got, got[:900]
+
+
+def long_logs():
+    """A long log is summed up on the terminal, with a pointer to its rows."""
+    text = listing(*((k, 60 * k, k % 300) for k in range(8192)))
+    with tempfile.TemporaryDirectory() as folder:
+        got = shown("show", "-", "-o", folder, stdin=text)
+        rows = len(re.findall(rb"(?m)^ *\d+  2026-", content(folder, "shown.table")))
+        right = got.count("\n") < 40 and f"All 8,192 rows: {folder}/shown.table" in got and "Mean" in got and rows == 8192
+        yield "show of a long log", right, (got, rows)
+    yield "table of a long log", shown("table", "-", stdin=text).count("\n") > 8192, None
+    page = shown("report", "-", stdin=text)
+    yield "every entry is in the report", len(re.findall(r"<td>\d+</td><td>", page)) == 8192, len(page)
+
+
+# ---- Exports, units, zones ----
+
+def exports():
+    held = [(int(line[:8], 16), int(line[8:24], 16), int(line[24:], 16)) for line in content("examples/landing.listing").split()[1:]]
+    start_of = datetime(2026, 11, 12, 5, 30, 1)
+    rows = list(csv.reader(io.StringIO(shown("table", "examples/landing.dump", "--csv"))))
+    head = ["entry", "time (tag's clock)", "seconds from the stamp (s)", "temperature (1/16 °C)", "temperature (°C)"]
+    yield "CSV, its head", rows[0] == head, rows[0]
+    due = [[str(k), (start_of + timedelta(seconds=s)).isoformat(), str(s), str(t), str(t / 16)] for k, s, t in held]
+    yield "CSV, its rows", rows[1:] == due, rows[1:3]
+    page = json.loads(shown("table", "examples/landing.dump", "--json", "--fahrenheit", "--zone", "UTC+02:00"))
+    got = [(row["entry"], row["seconds"], row["sixteenths"]) for row in page["entries"]]
+    yield "JSON, its entries", got == held, got[:3]
+    row = page["entries"][24]
+    right = (row["celsius"], row["fahrenheit"], row["time"], row["zone_time"]) == (
+        10.0625, 50.1125, "2026-11-12T09:30:01", "2026-11-12T11:30:01+02:00")
+    yield "JSON, an entry", right, row
+    yield "JSON, units for every column", set(row) == set(page["units"]), page["units"]
+    right = (page["summary_celsius_seconds"]["at_or_above_high"], page["thresholds_celsius"]) == (6600, {"low": None, "high": 10.0})
+    yield "JSON, its figures", right, page["summary_celsius_seconds"]
+    empty = json.loads(shown("table", "-", "--json", stdin=listing(stamp="000000000000")))
+    yield "JSON of no entry", empty["entries"] == [] and empty["summary_celsius_seconds"] is None, empty
+    no_dates = list(csv.reader(io.StringIO(shown("table", "-", "--csv", "--zone", "UTC", stdin=listing((0, -600, -1), stamp="0" * 12)))))
+    yield "CSV without dates", no_dates[1] == ["0", "", "", "-600", "-1", "-0.0625"], no_dates
+
+
+def zones():
+    got = shown("table", "examples/landing.dump", "--zone", "UTC+02:00", "--fahrenheit")
+    row = "   24  2026-11-12 09:30:01  2026-11-12 11:30:01+02:00    14400  10.0625  50.1125  high"
+    yield "another zone and Fahrenheit, beside the tag's own", row in got and "set to UTC, which no dump tells" in got, got[:2500]
+    got = shown("table", "examples/landing.dump", "--zone=-03:30", "--clock", "+01:00")
+    yield "a clock that was not set to UTC", "  2026-11-12 05:30:01  2026-11-12 01:00:01-03:30 " in got, got[:1500]
+    got = shown("picture", "examples/landing.dump", "--zone", "UTC+02:00")
+    right = "time by the tag's clock" in got.replace("&#x27;", "'") and "the same in UTC+02:00" in got
+    yield "the picture keeps the tag's time", right and ">06:00<" in got and ">08:00<" in got, got[-2500:]
+    try:
+        zoneinfo.ZoneInfo("Europe/Paris")
+    except zoneinfo.ZoneInfoNotFoundError:
+        yield "summer time", None, "this machine has no zones by name"
+        return
+    # Set in summer time, the tag's clock runs on past its end: 02:30 and 03:30 by it are both 02:30 in Paris.
+    night = listing((0, 0, 100), (1, 3600, 100), stamp="003002251026")
+    got = shown("table", "-", "--zone", "Europe/Paris", "--clock", "Europe/Paris", stdin=night)
+    right = "2026-10-25 02:30:00  2026-10-25 02:30:00+02:00" in got and "2026-10-25 03:30:00  2026-10-25 02:30:00+01:00" in got
+    yield "the end of summer time", right, got[-1200:]
+
+
+# ---- Passwords ----
+
+def passwords():
+    dump = content("examples/landing.dump")
+    for name, text in (("as characters", b"INSPECT1\n"), ("as digits", b"494E535045435431\r\n"), ("with a mark", b"\xEF\xBB\xBFINSPECT1")):
+        with tempfile.NamedTemporaryFile() as file:
+            file.write(text)
+            file.flush()
+            got = start([READER, "dump", "examples/landing.session", "--password-file", file.name])
+            yield f"a password in a file, {name}", got.stdout == dump, got.stderr
+    for typed, due, says in ((b"INSPECT1\n", DONE, b""), (b"\n", REFUSED, b"is the password right?"), (b"short\n", MISUSED, b"a password is"),
+                             (b"\x03", FAILED, b"reader: stopped")):
+        status, said = at_a_terminal([READER, "dump", "examples/landing.session", "-o", "/dev/null"], typed)
+        unseen = b"INSPECT1" not in said and b"short" not in said
+        yield f"a password typed, {typed}", status == due and says in said and unseen, (status, said)
+
+
+def at_a_terminal(words, typed):
+    """The status and what is said, with a terminal for input and output."""
+    child, terminal = pty.fork()
+    if not child:
+        os.chdir(TOP)
+        os.execv(words[0], words)
+    said = b""
+    try:
+        while True:
+            part = os.read(terminal, 4096)
+            if not part:
+                break
+            said += part
+            if b"has none): " in said and typed:
+                os.write(terminal, typed)
+                typed = b""
+    except OSError:
+        pass  # the terminal's other end is closed
+    return os.waitstatus_to_exitcode(os.waitpid(child, 0)[1]), said
+
+
+def helps():
+    for words in (["--help"], ["help"], *([word, "--help"] for word in ("show", "table", "picture", "report", "mend", "play", "record", "dump"))):
+        done = start([READER, *words])
+        text = " ".join(done.stdout.decode().split())
+        right = done.returncode == DONE and "1 refused" in text and "3 could not be done" in text and not done.stderr
+        yield f"reader {words}", right, done.stderr or text[:300]
+    done = start([READER, "--version"])
+    yield "reader --version", done.returncode == DONE and b"not proved" in done.stdout, done.stdout
+
+
+def checks():
+    for group in (odd_logs, figures, evidence, thresholds, long_logs, exports, zones, passwords, helps):
+        yield from group()
