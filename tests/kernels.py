@@ -1,7 +1,7 @@
 """For tests/take: a tag, which is the program `play`, and the kernel's 1-Wire driver in front of it.
 
-A Kernel does with the calls on a slave's file rw what the kernel's default driver does (w1.c, from its sources; no kernel was
-asked). Each kind of it lets something happen on the line, and is named after that.
+A Kernel does with the calls on a slave's file rw what the kernel's default driver does, as its source (drivers/w1/w1.c) is
+understood here; no kernel was asked. Each kind of it lets something happen on the line, and is named after that.
 """
 
 import errno

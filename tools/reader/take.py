@@ -121,6 +121,7 @@ def is_right(command, answer):
 
 
 def why_not(slave, answer):
+    """Why Read Memory was answered so; a tag that is silent is asked by Read Scratchpad."""
     if not is_silent(answer):
         return DISTURBED
     command = bytes((READ_SCRATCHPAD,))
