@@ -7,7 +7,7 @@ import tempfile
 
 from .common import DONE, TOP, start
 
-SCRIPTS = ("tests/determinacy", "tests/examples", "tests/tools", "tests/readme", "tests/run")
+SCRIPTS = ("tests/determinacy", "tests/examples", "tests/tools", "tests/take", "tests/readme", "tests/run")
 
 
 def make(folder, path, text):
