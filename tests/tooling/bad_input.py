@@ -45,6 +45,7 @@ WORDS = (
     ([READER, "play", "nowhere.session"], FAILED, "can't read nowhere.session: no such file"),
     ([READER, "table", "nowhere\n.dump"], FAILED, "can't read nowhere\\n.dump: no such file"),
     ([READER, "play", TOP], FAILED, "is a directory"),
+    ([READER, "table", "/dev/zero"], MISUSED, "/dev/zero is longer than any session, dump or listing"),
     ([READER, "play", "-", "--play", "/nowhere/play"], FAILED, "can't run '/nowhere/play': no such file"),
     ([READER, "play", "-", "--play", "false"], FAILED, "'false' ended with status 1"),
     ([READER, "play", "-", "--play", ""], MISUSED, "--play: the command is empty"),

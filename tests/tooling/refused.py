@@ -3,6 +3,7 @@
 import os
 import random
 import re
+import subprocess
 import sys
 import tempfile
 
@@ -110,7 +111,7 @@ def mended():
             done = start([READER, "mend", old, "-o", new])
             said = done.stderr.decode()
             yield f"mending {name}", done.returncode == DONE and content(new) == GOOD and content(old) == data, (done.returncode, said)
-            told_all = all(part in said for part in ("mended: ", says.split(";")[0], f"the dock takes {new}"))
+            told_all = all(part in said for part in ("mended: ", says.split(";")[0], "the dock takes it as mended"))
             yield f"mending {name}, told", told_all, said
         for name, data, number, says in DAMAGED:
             if number == 7:
@@ -121,6 +122,11 @@ def mended():
         write(old, GOOD)
         done = start([READER, "mend", old, "-o", new])
         yield "mending a good dump", done.returncode == DONE and content(new) == GOOD and b"is the same" in done.stderr, done.stderr
+        done = start([READER, "mend", "-", "-o", "-"], ADDED[0][1])
+        yield "mending on the way", (done.returncode, done.stdout) == (DONE, GOOD), done.stderr
+        with open(old, "rb") as file:
+            done = subprocess.run([READER, "mend", "-o", old], stdin=file, stdout=subprocess.PIPE, stderr=subprocess.PIPE)
+        yield "mending standard input into itself", *one_line(done, MISUSED, "NEW is the same file")
         done = start([READER, "mend", old, "-o", old])
         yield "mending a dump into itself", *one_line(done, MISUSED, "NEW is the same file")
 

@@ -8,7 +8,7 @@ from . import (DONE, FAILED, REFUSED, Fault, Misuse, dumps, export, files, line,
                programs, report, sessions, source, table, take, view)
 from .files import say
 
-MOST_DISAGREEMENTS = 10  # that are told one by one
+MOST_TOLD = 10  # of the bytes that are not as a session says
 
 USAGE = """reader COMMAND ..      (nothing of the reader is proved; the programs play and list that it drives are, by .ci/run)
 
@@ -31,24 +31,25 @@ def played(given):
     return text, frames, line.play(given.play, frames, name)
 
 
-def judged(given, frames, answers):
-    """Whether the tag sent every byte that the session gives; each other one is told."""
-    wrong = list(sessions.disagreements(frames, answers))
-    for sentence in wrong:
-        say(f"{files.name_of(given.file)}, {sentence}")
+def judged(name, wrong):
+    """Whether the tag sent every byte that the session gives; wrong has a sentence for each other one, and the first are told."""
+    for sentence in wrong[:MOST_TOLD]:
+        say(f"{name}, {sentence}")
+    if len(wrong) > MOST_TOLD:
+        say(f"{name}: and {len(wrong) - MOST_TOLD:,} other bytes read")
     return REFUSED if wrong else DONE
 
 
 def play(given):
     text, frames, answers = played(given)
     files.write(given.output, sessions.filled(text, frames, answers))
-    return judged(given, frames, answers)
+    return judged(files.name_of(given.file), sessions.disagreements(frames, answers))
 
 
 def record(given):
     _, frames, answers = played(given)
     files.write(given.output, "".join(sessions.strict(frames, answers)))
-    return judged(given, frames, answers)
+    return judged(files.name_of(given.file), sessions.disagreements(frames, answers))
 
 
 def take_dump(given):
@@ -64,7 +65,7 @@ def dump(given):
     frames = sessions.parse(files.text_of(files.read(given.file), name), name)
     text, answers = line.take_dump(given.play, frames, password.ask(given), name)
     files.write(given.output, text)
-    return judged(given, frames, answers)
+    return judged(files.name_of(given.file), sessions.disagreements(frames, answers))
 
 
 def seen(given):
@@ -73,32 +74,23 @@ def seen(given):
     return found, view.View(found.listing, given.fahrenheit, given.zone, given.clock)
 
 
-def told(found):
-    """Whether the tag sent every byte that the session gives; the first others are told."""
-    for sentence in found.disagreements[:MOST_DISAGREEMENTS]:
-        say(f"{found.name}, {sentence}")
-    if len(found.disagreements) > MOST_DISAGREEMENTS:
-        say(f"{found.name}: and {len(found.disagreements) - MOST_DISAGREEMENTS:,} other bytes read")
-    return REFUSED if found.disagreements else DONE
-
-
 def print_table(given):
     found, how = seen(given)
     make = export.csv_text if given.csv else export.json_text if given.json else table.table
     files.write(given.output, make(found, how))
-    return told(found)
+    return judged(found.name, found.disagreements)
 
 
 def draw(given):
     found, how = seen(given)
     files.write(given.output, picture.svg(found, how))
-    return told(found)
+    return judged(found.name, found.disagreements)
 
 
 def make_report(given):
     found, how = seen(given)
     files.write(given.output, report.html(found, how, given.note))
-    return told(found)
+    return judged(found.name, found.disagreements)
 
 
 def show(given):
@@ -113,7 +105,7 @@ def show(given):
         whole = f"{table.table(found, how, rows=False)}\nAll {len(found.listing.entries):,} rows: {paths['table']}\n"
     files.write(None, whole)
     say(f"the picture is {paths['svg']}, the page for an inspector {paths['html']}: open them in a browser")
-    return told(found)
+    return judged(found.name, found.disagreements)
 
 
 def save(folder, path, parts):
@@ -129,7 +121,7 @@ def save(folder, path, parts):
 def mend_dump(given):
     """What was taken away is told, and then the dock's word on what is left, which is the program's."""
     data, name = files.read(given.file), files.name_of(given.file)
-    if given.file != files.STANDARD and os.path.exists(given.output) and os.path.samefile(given.file, given.output):
+    if files.is_same(given.file, given.output):
         raise Misuse("NEW is the same file: a dump as it came is evidence, and stays")
     if source.kind_of(data, name) != source.DUMP:
         raise Misuse(f"{name} is no dump")
@@ -139,11 +131,10 @@ def mend_dump(given):
         say(f"{name}: mended: {sentence}")
     if not found:
         say(f"{name}: nothing that an editor or a mail program adds: the new file is the same")
-    say(f"wrote {given.output}")
     refusal = programs.REFUSAL.fullmatch(programs.run(given.list_, mended))
     if refusal:
-        raise listing.refused(given.output, int(refusal[1]), dumps.explain(int(refusal[1]), mended))
-    say(f"the dock takes {given.output}: reader show {given.output}")
+        raise listing.refused(f"{name} as mended", int(refusal[1]), dumps.explain(int(refusal[1]), mended))
+    say(f"{name}: the dock takes it as mended")
     return DONE
 
 

@@ -7,6 +7,7 @@ import tempfile
 from . import Fault, Misuse, reason
 
 STANDARD = "-"  # as a file's name: standard input or output
+LARGEST = 256 << 20  # bytes; the recording of the largest session has fewer
 
 
 def hold_descriptors():
@@ -16,8 +17,6 @@ def hold_descriptors():
             os.fstat(number)
         except OSError:
             os.open(os.devnull, os.O_RDWR)
-    if sys.stdout:
-        sys.stdout.reconfigure(encoding="utf-8")
 
 
 def printable(text):
@@ -46,10 +45,13 @@ def read(path):
         raise Fault("can't read standard input: it is closed")
     try:
         with open(0 if path == STANDARD else path, "rb", closefd=path != STANDARD) as file:
-            return file.read()
+            data = file.read(LARGEST + 1)
     except (OSError, ValueError) as error:  # a ValueError is a name that no file has
         words = reason(error) if isinstance(error, OSError) else str(error)
         raise Fault(f"can't read {name_of(path)}: {words}") from None
+    if len(data) > LARGEST:
+        raise Misuse(f"{name_of(path)} is longer than any session, dump or listing")
+    return data
 
 
 def text_of(data, name):
@@ -63,15 +65,14 @@ def text_of(data, name):
 # ---- Out ----
 
 def write(path, text):
-    """To a file, or to standard output if there is no path."""
-    if path in (None, STANDARD):
-        to_standard_output(text)
-    else:
-        write_bytes(path, text.encode())
+    write_bytes(path, text.encode())
 
 
 def write_bytes(path, data):
-    """To a file, which is then there whole, or as it was before."""
+    """To a file, which is then there whole or as it was before; to standard output if there is no path."""
+    if path in (None, STANDARD):
+        to_standard_output(data)
+        return
     try:
         if os.path.exists(path) and not os.path.isfile(path):  # a device or a pipe takes what comes; a folder is told
             with open(path, "wb") as file:
@@ -102,17 +103,25 @@ def mask():
     return held
 
 
-def to_standard_output(text):
+def to_standard_output(data):
     if not sys.stdout:
         raise Fault("can't write standard output: it is closed")
     try:
-        sys.stdout.write(text)
-        sys.stdout.flush()
+        sys.stdout.buffer.write(data)
+        sys.stdout.buffer.flush()
     except OSError as error:
         os.dup2(os.open(os.devnull, os.O_WRONLY), 1)  # or Python would try again as it ends
         if isinstance(error, BrokenPipeError):  # whoever read our output has had enough
             raise Fault from None
         raise Fault(f"can't write standard output: {reason(error)}") from None
+
+
+def is_same(path, new):
+    """Whether a file that is read and one that is to be written are the same."""
+    try:
+        return os.path.samestat(os.fstat(0) if path == STANDARD else os.stat(path), os.stat(new))
+    except OSError:
+        return False  # there is no such file yet
 
 
 def make_folder(folder):

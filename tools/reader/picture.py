@@ -181,6 +181,7 @@ def notes(source, view):
         found = summary.summary(source.listing, source.thresholds, source.period)
         named = dict(summary.rows(found, source.thresholds, view))
         sentences += [f"{name}: {named[name]}." for name in ("Lowest", "Highest")]
+    sentences = map(minus, sentences)
     quiet = [f"{name}: {text}" for name, text in evidence.rows(source)]
     for kind, texts in (("", sentences), (' class="quiet"', quiet)):
         for text in texts:
@@ -197,7 +198,7 @@ def svg(source, view):
             f'<text class="title" x="{shape.left}" y="34">{title}</text>',
             f'<text class="quiet" x="{shape.left}" y="56">{minus(view.extent(source.listing))}</text>']
     body += framed(source, view, shape)
-    body += [f'<text{kind} x="{shape.left}" y="{start + 17 * at}">{escape(minus(text))}</text>' for at, (kind, text) in enumerate(lines)]
+    body += [f'<text{kind} x="{shape.left}" y="{start + 17 * at}">{escape(text)}</text>' for at, (kind, text) in enumerate(lines)]
     return "\n".join([*body, "</svg>"]) + "\n"
 
 

@@ -6,7 +6,7 @@ import re
 import subprocess
 from collections import namedtuple
 
-from . import MISUSED, REFUSED, Fault, Misuse, reason
+from . import MISUSED, REFUSED, Fault, Misuse, files, reason
 
 TOP = os.path.dirname(os.path.dirname(os.path.dirname(os.path.realpath(__file__))))
 RUN = os.path.join(TOP, "run")
@@ -38,8 +38,8 @@ def build_of(command):
     said = BUILD.fullmatch(run([RUN, "--build", command[1]], b"").decode().strip())
     if not said:
         raise Fault(f"./run --build {command[1]} did not say which build there is")
-    with open(os.path.join(TOP, said[2]), "rb") as file:
-        return Build(said[1], said[2], said[3] == "proved", hashlib.sha256(file.read()).hexdigest())
+    digest = hashlib.sha256(files.read(os.path.join(TOP, said[2]))).hexdigest()
+    return Build(said[1], said[2], said[3] == "proved", digest)
 
 
 def revision():

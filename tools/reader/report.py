@@ -83,7 +83,7 @@ def section(name, *parts):
 
 
 def pairs(rows):
-    return "<dl>" + "".join(f"<dt>{escape(name)}</dt><dd>{escape(minus(text))}</dd>" for name, text in rows) + "</dl>"
+    return "<dl>" + "".join(f"<dt>{escape(name)}</dt><dd>{escape(text)}</dd>" for name, text in rows) + "</dl>"
 
 
 def sentences(texts):
@@ -121,7 +121,7 @@ def figures(source, view):
 def summed_up(source, view):
     if source.listing.entries:
         found = summary.summary(source.listing, source.thresholds, source.period)
-        yield pairs(summary.rows(found, source.thresholds, view))
+        yield pairs(map(minus, row) for row in summary.rows(found, source.thresholds, view))
     yield sentences(table.notes(source, view))
     if source.listing.entries and source.thresholds != (None, None):
         yield sentences([summary.how_times_are_counted(source.period)])

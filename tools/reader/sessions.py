@@ -126,8 +126,6 @@ def strict(frames, answers):
 
 def disagreements(frames, answers):
     """A sentence for each byte that was given and is not what the tag sent."""
-    for frame, answer in zip(frames, answers):
-        if frame.kind == READ:
-            for at, (given, sent) in enumerate(zip(frame.data * frame.times, answer), 1):
-                if given is not ANY and given != sent:
-                    yield f"line {frame.line}, byte {at} read: the tag sent {sent:02X}, the session says {given:02X}"
+    return [f"line {frame.line}, byte {at} read: the tag sent {sent:02X}, the session says {given:02X}"
+            for frame, answer in zip(frames, answers) if frame.kind == READ
+            for at, (given, sent) in enumerate(zip(frame.data * frame.times, answer), 1) if given is not ANY and given != sent]

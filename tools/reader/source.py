@@ -82,7 +82,7 @@ def play_session(source, given, text):
         f"then {len(line.PAGES)} pages by Read Memory ..")
     dump, answers = line.take_dump(given.play, frames, secret, source.name)
     source.dump = dump.encode()
-    source.disagreements = list(sessions.disagreements(frames, answers))
+    source.disagreements = sessions.disagreements(frames, answers)
 
 
 def list_dump(source, given):
