@@ -5,7 +5,7 @@ import sys
 from collections import namedtuple
 
 from . import DONE, DUMP, FAILED, REFUSED, SESSION, Fault, Misuse
-from . import dumps, export, files, line, listing, mend, options, password, picture, programs, report, sessions, source, table, view
+from . import dumps, export, files, line, listing, mend, options, password, picture, programs, report, sessions, source, table, take, view
 from .files import say
 
 MOST_TOLD = 10  # of the bytes that are not as a session says
@@ -50,6 +50,14 @@ def record(given):
     _, frames, answers = played(given)
     files.write(given.output, "".join(sessions.strict(frames, answers)))
     return judged(files.name_of(given.file), sessions.disagreements(frames, answers))
+
+
+def take_dump(given):
+    with take.Slave(given.file) as slave:
+        text = take.dump(slave, password.ask(given), say)
+    files.write(given.output, text)
+    say(f"{slave.name}: all {len(line.PAGES)} pages; its number, by the kernel's word: --rom {slave.rom.hex().upper()}")
+    return DONE
 
 
 def dump(given):
@@ -149,6 +157,8 @@ COMMANDS = {
     "play": Command(play, "SESSION", "plays a session to a new tag and prints it with the bytes read filled in",
                     (options.output, options.play_program)),
     "record": Command(record, "SESSION", "the same, in the strict form of a recording", (options.output, options.play_program)),
+    "take": Command(take_dump, "DEVICE", "reads a real tag's dump through the kernel's 1-Wire files (docs/TAKE.md)",
+                    (options.secret, options.output)),
     "dump": Command(dump, "SESSION", "plays a session, then reads the dump over the line, by Read Memory",
                     (options.secret, options.output, options.play_program)),
 }
