@@ -44,14 +44,14 @@ unfoldable pub copies : Held → Bus → Bool → Bool
 copies held bus may = asHeld held bus && toTheEnd held && may
 
 -- "Then AA sets"
-abbrev pub accepted : Held → Held
-accepted held = record { pad = held .pad; ta = held .ta; ending = held .ending; pf = held .pf; aa = true }
+abbrev pub withAA : Held → Held
+withAA held = record { pad = held .pad; ta = held .ta; ending = held .ending; pf = held .pf; aa = true }
 
 -- the field is whole, and the image has said whether it may
 unfoldable pub judged : Guarded → Held → Bus → Bool → Moved
 judged Guarded.Reading held bus may = listens held (goTo bus (afterReading (bus .address) may)) Deed.Nothing
 judged Guarded.Copying held bus may =
-    if copies held bus may then listens (accepted held) (goTo bus Stage.Copied) Deed.Store
+    if copies held bus may then listens (withAA held) (goTo bus Stage.Copied) Deed.Store
     else listens held (goTo bus Stage.Over) Deed.Nothing
 judged (Guarded.Controlling control) held bus may = listens held (goTo bus (afterControlling control may)) Deed.Nothing
 

@@ -13,7 +13,7 @@ use bus::state;
 ghost use mathlib.Core.Path.{_≡_};
 ghost use Rattle.bus.specs.declared.Guarded.{Guarded};
 ghost use Rattle.bus.specs.Bus.{gathering};
-ghost use Rattle.field.specs.Field.{gatheredBit, judged, afterReading, afterControlling, copies, asHeld, toTheEnd, accepted, fieldAsks, fieldQuestion};
+ghost use Rattle.field.specs.Field.{gatheredBit, judged, afterReading, afterControlling, copies, asHeld, toTheEnd, withAA, fieldAsks, fieldQuestion};
 
 // What is asked of the image: whether the field may, once it is whole.
 pub fn ask(g: Guarded, bus: Bus, bit: bool) -> Question
@@ -89,7 +89,7 @@ fn copy(held: Held, bus: Bus, may: bool) -> Moved
 {
     if copied(held, bus, may) {
         let bus = state::to(bus, Stage::Copied);
-        state::listen(accept(held), bus, Deed::Store)
+        state::listen(set_aa(held), bus, Deed::Store)
     } else {
         let bus = state::to(bus, Stage::Over);
         state::listen(held, bus, Deed::Nothing)
@@ -146,8 +146,8 @@ fn filled(held: Held) -> bool
     held.ending == 0x1F && !held.pf
 }
 
-fn accept(held: Held) -> Held
-    ensures { λ r. ⌜ r ≡ accepted held ⌝ }
+fn set_aa(held: Held) -> Held
+    ensures { λ r. ⌜ r ≡ withAA held ⌝ }
 {
     let pad = held.pad;
     Held {

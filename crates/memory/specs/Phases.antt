@@ -132,10 +132,10 @@ deedAt (Stage.Sends s) held bus bit answer = Deed.Nothing
 deedAt Stage.Copied held bus bit answer = Deed.Nothing
 
 -- nothing, or a Forced Conversion: what needs no password
-unfoldable pub free : Deed → Bool
-free Deed.Nothing = true
-free Deed.Convert = true
-free Deed.Store = false
-free Deed.Clear = false
-free Deed.Start = false
-free Deed.Stop = false
+unfoldable pub unguarded : Deed → Bool
+unguarded Deed.Nothing = true
+unguarded Deed.Convert = true
+unguarded Deed.Store = false
+unguarded Deed.Clear = false
+unguarded Deed.Start = false
+unguarded Deed.Stop = false

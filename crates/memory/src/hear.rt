@@ -16,7 +16,7 @@ ghost use Rattle.bus.specs.declared.Hearing.{Hearing};
 ghost use Rattle.memory.specs.Hear.{heardBit, heardWhole, commandStage, addressHeard, loaded, stored, afterData, underWay, confirmed, deedOf};
 
 // One bit heard. The bits of a byte come low bit first, and with its eighth the byte is whole.
-pub fn hear(h: Hearing, held: Held, bus: Bus, bit: bool) -> Moved
+pub(crate) fn hear(h: Hearing, held: Held, bus: Bus, bit: bool) -> Moved
     ensures { λ r. ⌜ r ≡ heardBit h held bus bit ⌝ }
 {
     let at = bus.at;

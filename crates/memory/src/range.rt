@@ -13,7 +13,7 @@ ghost use Rattle.field.specs.Field.{guarded};
 ghost use Rattle.memory.specs.Range.{fromOffset, hearingInRange, guardedInRange, crcInRange, sendingInRange, stageInRange};
 
 // The stage and how many bits are past.
-pub fn stage_in_range(held: Held, bus: Bus) -> bool
+pub(crate) fn stage_in_range(held: Held, bus: Bus) -> bool
     ensures { λ r. ⌜ r ≡ stageInRange (bus .stage) held bus ⌝ }
 {
     let stage = bus.stage;
@@ -27,7 +27,7 @@ pub fn stage_in_range(held: Held, bus: Bus) -> bool
 }
 
 // A place of the scratchpad from TA's offset to 1Fh.
-pub fn from_offset(held: Held, place: u8) -> bool
+pub(crate) fn from_offset(held: Held, place: u8) -> bool
     ensures { λ r. ⌜ r ≡ fromOffset held place ⌝ }
 {
     (held.ta % 32) as u8 <= place && place < 32

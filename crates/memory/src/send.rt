@@ -12,7 +12,7 @@ ghost use mathlib.Core.Path.{_≡_};
 ghost use Rattle.memory.specs.Send.{firstByte, afterPad, afterMemory, afterPage, afterCrc, sentWhole, outgoing, sentBit, alternating, sendAsks};
 
 // What is asked of the image: Read Memory's byte, at its first slot.
-pub fn send_asks(s: Sending, bus: Bus) -> Question
+pub(crate) fn send_asks(s: Sending, bus: Bus) -> Question
     ensures { λ r. ⌜ r ≡ sendAsks s bus ⌝ }
 {
     match s {
@@ -33,7 +33,7 @@ pub fn send_asks(s: Sending, bus: Bus) -> Question
 }
 
 // One bit goes out, whatever the master does. `memory` is what the image holds for Read Memory.
-pub fn send(s: Sending, held: Held, bus: Bus, memory: u8) -> Moved
+pub(crate) fn send(s: Sending, held: Held, bus: Bus, memory: u8) -> Moved
     ensures { λ r. ⌜ r ≡ sentBit s held bus memory ⌝ }
 {
     let at = bus.at;
@@ -149,7 +149,7 @@ fn after_page(bus: Bus) -> Bus
 }
 
 // After a Copy that is done: 0, 1, 0, 1 on.
-pub fn alternate(held: Held, bus: Bus) -> Moved
+pub(crate) fn alternate(held: Held, bus: Bus) -> Moved
     ensures { λ r. ⌜ r ≡ alternating held bus ⌝ }
 {
     if bus.at == 0 {

@@ -17,7 +17,7 @@ use Rattle.answer.specs.Answer.Laws.{accepted-is}
 use Rattle.answer.specs.declared.Answer.{Answer}
 use Rattle.bits.specs.Choose.{if_then_else_}
 use Rattle.dock.specs.declared.Listing.{Listing}
-use Rattle.dock.specs.Listing.{answerOf, accepted, refused, listingOf, temperaturesOf}
+use Rattle.dock.specs.Listing.{answerOf, isAccepted, refused, listingOf, temperaturesOf}
 use Rattle.dock.specs.Listing.Laws.{answer-listing, listing-refused, temperatures-refused}
 use Rattle.dock.proofs.list_dump.Reads as list-dump
 use Rattle.tag.specs.declared.Answered.{Answered}
@@ -118,11 +118,11 @@ new-cleared image number code e =
 
 listing-defined : (dump : List ℕ) (lent : List ℤ) (listing : Listing) (left : List ℤ) → listing ≡ listingOf dump (length lent)
     → left ≡ temperaturesOf dump lent → DefinedListing dump lent listing left
-unfolding accepted refused
+unfolding isAccepted refused
 listing-defined dump lent listing left p q =
     let answered = ap (λ (l : Listing). l .answer) p ∙ answer-listing dump (length lent) in
     let number = dump-number dump (length lent) in
-    let no : dumpNumber dump (length lent) ≢ 0 → accepted (answerOf dump (length lent)) ≡ false = λ n. ne-eqb _ 0 (λ e. n (sym number ∙ e)) in
+    let no : dumpNumber dump (length lent) ≢ 0 → isAccepted (answerOf dump (length lent)) ≡ false = λ n. ne-eqb _ 0 (λ e. n (sym number ∙ e)) in
     record {
       listed = p;
       places = q;

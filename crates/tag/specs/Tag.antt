@@ -63,7 +63,7 @@ refusal answer tag image = record { answered = refused answer tag; image = image
 
 -- "clears the lent image whatever it held, has BOR 1, everything else clear", over its length
 unfoldable pub newImage : ℕ → List ℕ
-newImage length = set (replicate length 0) 0x0214 0x80
+newImage size = set (replicate size 0) 0x0214 0x80
 
 -- "a refused new tag: the record of all zeros"; "new tag 3, 4, 5"
 unfoldable pub newTag : List ℕ → ℕ → ℕ → Outcome

@@ -9,7 +9,7 @@ ghost use mathlib.Core.Path.{_≡_};
 ghost use Rattle.bits.specs.Bits.{digit};
 ghost use Rattle.tag.specs.Tag.{answerTo, performed, performedCounters, slotted};
 
-pub fn slot(image: &mut [u8], tag: Tag, bit: bool) -> Answered
+pub(crate) fn slot(image: &mut [u8], tag: Tag, bit: bool) -> Answered
     ensures { λ r. ⌜ r ≡ slotted (now (image .entry)) tag bit .answered ⌝ }
     ensures { λ _. ⌜ now (image .exit) ≡ slotted (now (image .entry)) tag bit .image ⌝ }
 {

@@ -7,7 +7,7 @@ use lib.Dec.{eqb}
 use Rattle.bits.specs.Choose.{if_then_else_}
 use Rattle.bus.specs.declared.Question.{Question}
 use Rattle.memory.specs.Memory as memory
-use Rattle.memory.specs.Phases.{opened, reading, writing, confirms, lets, letsWrite, free}
+use Rattle.memory.specs.Phases.{opened, reading, writing, confirms, lets, letsWrite, unguarded}
 use Rattle.memory.specs.Phases.Deeds as deeds
 use Rattle.memory.specs.Phases.Laws as phases
 use Rattle.select.specs.Select as select
@@ -64,12 +64,12 @@ writing-after x bit answer shut =
     slot-cases (λ q s. letsWrite q answer ≡ false → writing (s answer .exchange .bus .stage) ≡ false) x bit
     (phases.writing-after (x .held) (x .bus) bit answer shut) (λ unlet. shut)
 
-pub free-deed : (x : Exchange) (bit : Bool) (answer : ℕ) → writing (x .bus .stage) ≡ false → letsWrite (asks x bit) answer ≡ false →
-    free (slotOf x bit answer .deed) ≡ true
-unfolding free
-free-deed x bit answer shut =
-    slot-cases (λ q s. letsWrite q answer ≡ false → free (s answer .deed) ≡ true) x bit
-    (deeds.free-deed (x .held) (x .bus) bit answer shut) (λ unlet. refl)
+pub unguarded-deed : (x : Exchange) (bit : Bool) (answer : ℕ) → writing (x .bus .stage) ≡ false → letsWrite (asks x bit) answer ≡ false →
+    unguarded (slotOf x bit answer .deed) ≡ true
+unfolding unguarded
+unguarded-deed x bit answer shut =
+    slot-cases (λ q s. letsWrite q answer ≡ false → unguarded (s answer .deed) ≡ true) x bit
+    (deeds.unguarded-deed (x .held) (x .bus) bit answer shut) (λ unlet. refl)
 
 -- two tags that stand alike and get no password move alike, whatever their images hold, if their alarms agree where they are asked
 pub shut-agree : (x : Exchange) (bit : Bool) (a b : ℕ) → opened (x .bus .stage) ≡ false →

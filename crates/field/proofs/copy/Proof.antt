@@ -10,5 +10,5 @@ unfolding judged
 copy-spec =
     tie.close
     (tie.spec (search needs) (search needs) (search needs) (search needs) (search needs) (search needs)
-    (λ c. simp (c .listen .ensures, c .before .accept .ensures, c .before .before .to .ensures, sym (c .before .before .before .before .copied .ensures) ∙ c .before .before .before .if1 .taken))
+    (λ c. simp (c .listen .ensures, c .before .set-aa .ensures, c .before .before .to .ensures, sym (c .before .before .before .before .copied .ensures) ∙ c .before .before .before .if1 .taken))
     (λ c. simp (c .listen2 .ensures, c .before .to2 .ensures, sym (c .before .before .before .copied .ensures) ∙ c .before .before .if1 .left)))

@@ -22,7 +22,7 @@ use Rattle.memory.specs.Hear.{addressHeard, confirmed, deedOf, heardWhol
 use Rattle.field.specs.Field.{guarded, copies, judged, gatheredBit, fieldAsks}
 use Rattle.memory.specs.Send.{sentBit, alternating}
 use Rattle.memory.specs.Memory.{asks, stageAsks, stageSlot, onLine, slotOf}
-use Rattle.memory.specs.Phases.{confirms, writing, letsWrite, hearingDeed, fieldDeed, deedAt, free}
+use Rattle.memory.specs.Phases.{confirms, writing, letsWrite, hearingDeed, fieldDeed, deedAt, unguarded}
 
 abbrev Does : Moved → Deed → Type 0
 Does moved deed = moved .deed ≡ deed
@@ -74,22 +74,22 @@ deed-cases P held bus bit answer none control copy = rw (deed-is held bus bit an
     at Stage.Copied = none _
 
 -- without a field that may write nothing is done but a Forced Conversion
-pub free-deed : (held : Held) (bus : Bus) (bit : Bool) (answer : ℕ) →
-    writing (bus .stage) ≡ false → letsWrite (asks bus bit) answer ≡ false → free (slotOf held bus bit answer .deed) ≡ true
-unfolding asks stageAsks fieldAsks letsWrite hearingDeed fieldDeed free writing confirms guarded
-free-deed held bus bit answer =
-    deed-cases (λ k d. writing k ≡ false → letsWrite (stageAsks k bus bit) answer ≡ false → free d ≡ true) held bus bit answer
+pub unguarded-deed : (held : Held) (bus : Bus) (bit : Bool) (answer : ℕ) →
+    writing (bus .stage) ≡ false → letsWrite (asks bus bit) answer ≡ false → unguarded (slotOf held bus bit answer .deed) ≡ true
+unfolding asks stageAsks fieldAsks letsWrite hearingDeed fieldDeed unguarded writing confirms guarded
+unguarded-deed held bus bit answer =
+    deed-cases (λ k d. writing k ≡ false → letsWrite (stageAsks k bus bit) answer ≡ false → unguarded d ≡ true) held bus bit answer
     (λ k h unwritten. refl)
     (λ control h unwritten. confirm control h)
-    (λ h unwritten. choices (λ (q : Question) (d : Deed). letsWrite q answer ≡ false → free d ≡ true) (ltb (bus .at) 63) (λ e. refl) (λ e. simp (e, copies-not)) unwritten)
+    (λ h unwritten. choices (λ (q : Question) (d : Deed). letsWrite q answer ≡ false → unguarded d ≡ true) (ltb (bus .at) 63) (λ e. refl) (λ e. simp (e, copies-not)) unwritten)
   where
-    confirm : (control : Control) → guarded control ≡ false → free (hearingDeed (Hearing.Confirm control) bus bit) ≡ true
+    confirm : (control : Control) → guarded control ≡ false → unguarded (hearingDeed (Hearing.Confirm control) bus bit) ≡ true
     confirm Control.Clear h = cc
     confirm Control.Start h = cc
     confirm Control.Stop h = cc
     confirm Control.Convert h =
-        choice (λ (d : Deed). free d ≡ true) (ltb (bus .at) 7) refl
-        (choice (λ (d : Deed). free d ≡ true) (eqb (shiftIn 8 (bus .byte) bit) 0xFF) refl refl)
+        choice (λ (d : Deed). unguarded d ≡ true) (ltb (bus .at) 7) refl
+        (choice (λ (d : Deed). unguarded d ≡ true) (eqb (shiftIn 8 (bus .byte) bit) 0xFF) refl refl)
 
 -- which control command a deed is of, and whether it is of one; any will do for a deed that is of none
 controlOf : Deed → Control

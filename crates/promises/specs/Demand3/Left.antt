@@ -16,7 +16,7 @@ use Rattle.image.specs.Answers.Laws.{SameKeys, keys-then, keys-kept}
 use Rattle.image.specs.Fields.{flagAt}
 use Rattle.image.specs.Leaves.{leaves-same}
 use Rattle.image.specs.Registers.{mip, eosc, passwordControl, fullPassword}
-use Rattle.memory.specs.Phases.{writing, letsWrite, free}
+use Rattle.memory.specs.Phases.{writing, letsWrite, unguarded}
 use Rattle.memory.specs.Phases.Laws.{shut-writing}
 use Rattle.mission.specs.Mission.Frames.{leaves-ticked, leaves-forced, mip-ticked, mip-forced}
 use Rattle.mission.specs.declared.Counters.{Counters}
@@ -26,7 +26,7 @@ use Rattle.tag.specs.Tag.{answerTo, slotted, resetTag, tickTag}
 use Rattle.tag.specs.Tag.Laws.{ranges-of}
 use Rattle.promises.specs.Demand3.{EndsField, Forces, Converted, Unconverted, LeftToTicks, NoPassword}
 use Rattle.promises.specs.Demand3.Image.{counters-idle, Spoilt, spoilt-idle, spoilt-forced, spoilt-ticked}
-use Rattle.promises.specs.Demand3.Slot.{unlet-write, convert-forces, free-performed, free-counters}
+use Rattle.promises.specs.Demand3.Slot.{unlet-write, convert-forces, unguarded-performed, unguarded-counters}
 use Rattle.promises.specs.Runs.{State, Event, after, run, ticksOf, Always, OnSlots}
 use Rattle.promises.specs.Runs.Laws.{invariant-always, always-map, Sound, sound-after, slot-happens, reset-happens, tick-happens, tick-refused, on-slots, all-slots, always-all}
 
@@ -64,8 +64,8 @@ module _ {image : List ℕ} {s : State} (g : Guards image s) (bit : Bool) (wrong
       unlet-write (s .image) (s .tag .code) (s .tag .exchange) bit (guards-range g) (guards-checked g)
       (λ field ends e. wrong field ends (e ∙ g .keys .full))
 
-  deed-free : free (exchange.slotOf (s .tag .exchange) bit answer .deed) ≡ true
-  deed-free = exchange-laws.free-deed (s .tag .exchange) bit answer (g .shut) unwritten
+  deed-unguarded : unguarded (exchange.slotOf (s .tag .exchange) bit answer .deed) ≡ true
+  deed-unguarded = exchange-laws.unguarded-deed (s .tag .exchange) bit answer (g .shut) unwritten
 
   -- the image stays, or is what a Forced Conversion leaves
   pub slot-image : (P : List ℕ → Type 0) → P (s .image) → (Forces (s .tag .exchange) bit → P (forced (s .image) (s .tag .counters))) →
@@ -73,13 +73,13 @@ module _ {image : List ℕ} {s : State} (g : Guards image s) (bit : Bool) (wrong
   unfolding after slotted answer
   slot-image P same converted =
       rw (slot-happens (g .sound) bit)
-      (free-performed P _ _ (s .tag .counters) (s .image) deed-free same
+      (unguarded-performed P _ _ (s .tag .counters) (s .image) deed-unguarded same
       (λ e. converted (convert-forces (s .tag .exchange) bit answer (guards-range g) e)))
 
   -- the counters, the number and the code stay
   pub slot-counters : after s (Event.slot bit) .tag .counters ≡ s .tag .counters
   unfolding after slotted answer
-  slot-counters = rw (slot-happens (g .sound) bit) (free-counters _ (s .tag .counters) (s .image) deed-free)
+  slot-counters = rw (slot-happens (g .sound) bit) (unguarded-counters _ (s .tag .counters) (s .image) deed-unguarded)
 
   pub slot-number : after s (Event.slot bit) .tag .exchange .number ≡ s .tag .exchange .number
   unfolding after slotted answer

@@ -26,7 +26,7 @@ use Rattle.bus.specs.declared.Sending.{Sending}
 use Rattle.bus.specs.declared.Stage.{Stage}
 use Rattle.field.specs.Field.{fieldQuestion, fieldAsks}
 use Rattle.memory.specs.Memory as memory
-use Rattle.memory.specs.Phases.{letsRead, letsWrite, lets, free}
+use Rattle.memory.specs.Phases.{letsRead, letsWrite, lets, unguarded}
 use Rattle.memory.specs.Range.{guardedInRange, hearingInRange, stageInRange}
 use Rattle.memory.specs.Send.{sendAsks}
 use Rattle.mission.specs.declared.Counters.{Counters}
@@ -160,21 +160,21 @@ convert-forces x bit answer range = by (select.isSelected (x .select)) refl
     by false chosen e = let none : _≡_ {A = ℕ} 0 1 = cc in absurd (omega arith)
 
 -- what needs no password: nothing, or a Forced Conversion
-free-cases : (P : Deed → Type 0) (deed : Deed) → free deed ≡ true → P Deed.Nothing → (deed ≡ Deed.Convert → P Deed.Convert) → P deed
-unfolding free
-free-cases P Deed.Nothing h none convert = none
-free-cases P Deed.Convert h none convert = convert refl
-free-cases P Deed.Store h none convert = absurd (false≢true h)
-free-cases P Deed.Clear h none convert = absurd (false≢true h)
-free-cases P Deed.Start h none convert = absurd (false≢true h)
-free-cases P Deed.Stop h none convert = absurd (false≢true h)
+unguarded-cases : (P : Deed → Type 0) (deed : Deed) → unguarded deed ≡ true → P Deed.Nothing → (deed ≡ Deed.Convert → P Deed.Convert) → P deed
+unfolding unguarded
+unguarded-cases P Deed.Nothing h none convert = none
+unguarded-cases P Deed.Convert h none convert = convert refl
+unguarded-cases P Deed.Store h none convert = absurd (false≢true h)
+unguarded-cases P Deed.Clear h none convert = absurd (false≢true h)
+unguarded-cases P Deed.Start h none convert = absurd (false≢true h)
+unguarded-cases P Deed.Stop h none convert = absurd (false≢true h)
 
 -- it leaves the counters, and of the image what a Forced Conversion leaves
-pub free-performed : (P : List ℕ → Type 0) (deed : Deed) (x : Exchange) (c : Counters) (image : List ℕ) → free deed ≡ true →
+pub unguarded-performed : (P : List ℕ → Type 0) (deed : Deed) (x : Exchange) (c : Counters) (image : List ℕ) → unguarded deed ≡ true →
     P image → (deed ≡ Deed.Convert → P (mission.forced image c)) → P (performed deed x c image)
 unfolding performed
-free-performed P deed x c image h none convert = free-cases (λ d. P (performed d x c image)) deed h none convert
+unguarded-performed P deed x c image h none convert = unguarded-cases (λ d. P (performed d x c image)) deed h none convert
 
-pub free-counters : (deed : Deed) (c : Counters) (image : List ℕ) → free deed ≡ true → performedCounters deed c image ≡ c
+pub unguarded-counters : (deed : Deed) (c : Counters) (image : List ℕ) → unguarded deed ≡ true → performedCounters deed c image ≡ c
 unfolding performedCounters
-free-counters deed c image h = free-cases (λ d. performedCounters d c image ≡ c) deed h refl (λ e. refl)
+unguarded-counters deed c image h = unguarded-cases (λ d. performedCounters d c image ≡ c) deed h refl (λ e. refl)

@@ -24,7 +24,7 @@ use Rattle.bus.specs.declared.Question.{Question}
 use Rattle.bus.specs.declared.Stage.{Stage}
 use Rattle.bus.specs.Bus.{goTo, noting, listens, statusByte}
 use Rattle.memory.specs.Hear.{commandStage, addressHeard, heardWhole}
-use Rattle.field.specs.Field.{asHeld, toTheEnd, copies, accepted, judged}
+use Rattle.field.specs.Field.{asHeld, toTheEnd, copies, withAA, judged}
 use Rattle.memory.specs.Runs.Scratchpad.{overAt}
 use Rattle.promises.specs.Line.Commands.{heard-then, head-run}
 
@@ -52,7 +52,7 @@ module _ (answers : Question → ℕ) (number : ℕ) (mark : Bool) (held : Held)
   -- "Done exactly if ..": with the last bit of the password a Store, and AA is set
   pub copy-field : (bus : Bus) (field : ℕ) → field < 2 ^ 64 → copies held bus (eqb (answers (Question.MayCopy field (bus .address))) 1) ≡ true →
       run answers (commanding number mark held (goTo bus (Stage.Gathers Guarded.Copying))) (bitsOf 64 field) ≡
-      lastly number mark 63 (listens (accepted held) (goTo bus Stage.Copied) Deed.Store) (bitsOf 64 field)
+      lastly number mark 63 (listens (withAA held) (goTo bus Stage.Copied) Deed.Store) (bitsOf 64 field)
   unfolding judged copies asHeld
   copy-field bus field fits done = field-gathered answers number mark held bus Guarded.Copying field fits ∙ rw done
 

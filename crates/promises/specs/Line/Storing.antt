@@ -28,7 +28,7 @@ use Rattle.bus.specs.declared.Hearing.{Hearing}
 use Rattle.bus.specs.declared.Question.{Question}
 use Rattle.bus.specs.declared.Stage.{Stage}
 use Rattle.bus.specs.Bus.{clearBus, goTo, statusByte}
-use Rattle.field.specs.Field.{copies, accepted}
+use Rattle.field.specs.Field.{copies, withAA}
 use Rattle.memory.specs.Runs.Scratchpad.{overAt, padBytes, read-scratchpad, writeHead, writtenTo, write-scratchpad, rest-of-page}
 use Rattle.tag.specs.Tag.{answerTo, performed, performedCounters}
 use Rattle.promises.specs.Runs.{State, run, Reached}
@@ -88,7 +88,7 @@ copies-held : (s : State) (sound : Sound s) (way : Way) (field n : ℕ) → fiel
     (ran .line ≡ greeting s way ++ (slotsOf (copyHead (held .ta) (statusByte held)) ++ (bitsOf 64 field ++ zeroOnes n)))
     × (ran .state .image ≡ storedPage (s .image) (held .pad) (held .ta))
     × (ran .state .tag .counters ≡ s .tag .counters)
-    × (ran .state .tag .exchange .held ≡ accepted held)
+    × (ran .state .tag .exchange .held ≡ withAA held)
 unfolding answerTo performed performedCounters
 copies-held s sound way field n fits low full whole may =
     let held = s .tag .exchange .held in
@@ -97,13 +97,13 @@ copies-held s sound way field n fits low full whole may =
     let bus = copyBus (held .ta) (statusByte held) in
     let answer : eqb (answersOf s (Question.MayCopy field (held .ta))) 1 ≡ true = rw may in
     let headed = withExchange s (commanding number mark held (goTo bus (Stage.Gathers Guarded.Copying))) in
-    let done = afterDeed Deed.Store headed (commanding number mark (accepted held) (goTo bus Stage.Copied)) in
+    let done = afterDeed Deed.Store headed (commanding number mark (withAA held) (goTo bus Stage.Copied)) in
     rw (session-then s sound way (slotsOf (copyHead (held .ta) (statusByte held))) (bitsOf 64 field ++ released (n * 2))
     (copy-head (answersOf s) number mark held (held .ta) (statusByte held) low (status-lt held))
     (slots-then headed (bitsOf 64 field) (released (n * 2))
     (slots-lastly headed (bitsOf 64 field) 63 Deed.Store
     (copy-field (answersOf s) number mark held bus field fits (copies-right held full whole answer)))
-    (slots-quiet done (released (n * 2)) (run-copied (answersOf done) number mark (accepted held) bus n))))
+    (slots-quiet done (released (n * 2)) (run-copied (answersOf done) number mark (withAA held) bus n))))
     (refl, refl, refl, refl)
 
 -- Copy with the address and E/S as held, up to the page's end, to an address that may be written now and with a password that passes:
@@ -115,7 +115,7 @@ pub copies-page : {s : State} (reached : Reached s) (way : Way) (field n : ℕ) 
     (ran .line ≡ greeting s way ++ (slotsOf (copyHead (held .ta) (statusByte held)) ++ (bitsOf 64 field ++ zeroOnes n)))
     × (ran .state .image ≡ storedPage (s .image) (held .pad) (held .ta))
     × (ran .state .tag .counters ≡ s .tag .counters)
-    × (ran .state .tag .exchange .held ≡ accepted held)
+    × (ran .state .tag .exchange .held ≡ withAA held)
 copies-page {s} reached way field n fits full whole there passes =
     copies-held s (reached-sound reached) way field n fits (reached-ta reached) full whole
     (copy-may (s .image) field (s .tag .exchange .held .ta) there passes)
