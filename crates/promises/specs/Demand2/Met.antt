@@ -12,13 +12,12 @@ use Rattle.bits.specs.Bits.{bitsOf, released}
 use Rattle.dock.specs.Listing.{listingOf, temperaturesOf, secondsAt}
 use Rattle.dump.specs.Dump.{dumpOf}
 use Rattle.exchange.specs.Runs.{Way}
-use Rattle.image.specs.Fields.{wordAt}
 use Rattle.bus.specs.declared.Control.{Control}
 use Rattle.tag.specs.Tag.{newTag}
-use Rattle.promises.specs.Demand2.AtStart.{byteAt}
 use Rattle.promises.specs.Demand2.Events.{MayStart, Starts}
 use Rattle.promises.specs.Demand3.Needed.Owner.{skipping}
 use Rattle.promises.specs.Line.ControlRun.{controlSlots}
+use Rattle.promises.specs.Line.Passwords.{PassesFull}
 use Rattle.promises.specs.Line.Slots.{session}
 use Rattle.promises.specs.Line.Storing.{writeSlots, copySlots}
 use Rattle.promises.specs.Runs.{State, Event, leaves, run, Reached}
@@ -33,13 +32,9 @@ pub mod Mission
 abbrev pub startSlots : ℕ → List Bool
 startSlots field = (bitsOf 8 0xCC ++ bitsOf 64 field) ++ released 7
 
--- "With 0227h equal to AAh passwords are checked, else any eight bytes pass": the full password stands from 0230h on
-abbrev pub Right : List ℕ → ℕ → Type 0
-Right image field = byteAt image 0x0227 ≡ 0xAA → field ≡ wordAt image 0x0230 8
-
 -- a reset, a way of choosing the tag, and the slots of a Start with a right password
 abbrev pub StartMet : Type 0
-StartMet = (s : State) (way : Way) (field : ℕ) → Reached s → field < 2 ^ 64 → Right (s .image) field → MayStart (s .image) →
+StartMet = (s : State) (way : Way) (field : ℕ) → Reached s → field < 2 ^ 64 → PassesFull (s .image) field → MayStart (s .image) →
     Starts (run s (session s way (startSlots field)) .state) (Event.slot true)
 
 -- ---- one mission

@@ -3,14 +3,11 @@ use mathlib.Core.Path.{_≡_, refl}
 use mathlib.Core.Bool.{Bool, true}
 use mathlib.Core.List.{List, [], _∷_, _++_}
 use Prim.Native.Nat.{ℕ, _^_, _<_}
-use borrow.Author.Tests.{eq-eqb, eqb-true}
 use lib.Dec.{eqb}
 use Rattle.bits.specs.Bits.{bitOf, bitsOf, released}
-use Rattle.bits.specs.Choose.{either}
 use Rattle.exchange.specs.Exchange.{slotOf, asks}
 use Rattle.exchange.specs.Runs as exchange
 use Rattle.exchange.specs.Runs.{Way, wayMark, commanding}
-use Rattle.image.specs.Answers.{checked, mayControl}
 use Rattle.bus.specs.declared.Control.{Control}
 use Rattle.bus.specs.declared.Deed.{Deed}
 use Rattle.bus.specs.declared.Hearing.{Hearing}
@@ -19,9 +16,9 @@ use Rattle.bus.specs.declared.Stage.{Stage}
 use Rattle.bus.specs.Bus.{goTo}
 use Rattle.field.specs.Field.{guarded}
 use Rattle.tag.specs.Tag.{answerTo, slotted, performed, performedCounters}
-use Rattle.promises.specs.Demand2.AtStart.{byteAt}
 use Rattle.promises.specs.Demand2.Events.{slotAt, deedAt}
-use Rattle.promises.specs.Demand2.Met.{startSlots, Right, StartMet}
+use Rattle.promises.specs.Demand2.Met.{startSlots, StartMet}
+use Rattle.promises.specs.Line.Passwords.{PassesFull, full-may}
 use Rattle.promises.specs.Line.ControlRun.{controlByte, controlBus, control-head, control-done}
 use Rattle.promises.specs.Line.Slots.{slots, withExchange, answersOf, Ends, ends-lastly, numberOf, session, session-then}
 use Rattle.promises.specs.Runs.{State, Event, run}
@@ -40,18 +37,12 @@ slots-before s (b ∷ c ∷ cs) bit deed e =
     let slot = slotOf (s .tag .exchange) b (answersOf s (asks (s .tag .exchange) b)) in
     rw (slots, e .0) (slots-before (withExchange s (slot .exchange)) (c ∷ cs) bit deed (e .1))
 
--- a password that is right may
-right-may : (image : List ℕ) (field : ℕ) → Right image field → mayControl image field ≡ true
-unfolding mayControl checked
-right-may image field right =
-    either (λ (b : Bool). b ≡ true) (eqb (byteAt image 0x0227) 0xAA) (λ on. eq-eqb _ _ (right (eqb-true _ _ on))) (λ off. refl)
-
 -- FFh is eight 1s
 ones : bitsOf 8 0xFF ≡ released 7 ++ (true ∷ [])
 unfolding bitsOf bitOf
 ones = refl
 
-module _ {s : State} (sound : Sound s) (way : Way) (field : ℕ) (fits : field < 2 ^ 64) (right : Right (s .image) field) where
+module _ {s : State} (sound : Sound s) (way : Way) (field : ℕ) (fits : field < 2 ^ 64) (right : PassesFull (s .image) field) where
   pub start-comes : let u = run s (session s way (startSlots field)) .state in
       (u .image ≡ s .image) × (deedAt u (Event.slot true) ≡ Deed.Start)
   unfolding answerTo controlByte guarded
@@ -60,7 +51,7 @@ module _ {s : State} (sound : Sound s) (way : Way) (field : ℕ) (fits : field <
       let mark = wayMark way in
       let held = s .tag .exchange .held in
       let bus = controlBus Control.Start in
-      let answer : eqb (answersOf s (Question.MayControl field)) 1 ≡ true = rw (right-may (s .image) field right) in
+      let answer : eqb (answersOf s (Question.MayControl field)) 1 ≡ true = rw (full-may (s .image) field right) in
       let headed = withExchange s (commanding number mark held (goTo bus (Stage.Hears (Hearing.Confirm Control.Start)))) in
       let done = control-done (answersOf s) number mark held Control.Start bus in
       let came = session-then s sound way (bitsOf 8 0xCC ++ bitsOf 64 field) (released 7)
