@@ -1,7 +1,6 @@
 // The clock's registers, and the stamp, which is stored in the same order.
 ghost use mathlib.Core.Path.{_≡_};
-ghost use Rattle.conversion.specs.Clock.{clockOf, putClock};
-ghost use Rattle.conversion.specs.Clock.{clocked};
+ghost use Rattle.conversion.specs.Clock.{clockOf, putClock, clocked};
 use calendar::Clock;
 use image::registers::CLOCK;
 use image::registers::EOSC;
