@@ -1,5 +1,6 @@
--- Conditional Search: a tag with an alarm flag joins it, and is then chosen; one without stays silent, and the line is the master's
--- (document 01, "Choosing a tag on the line"). Assumes nothing.
+-- A reset, which changes nothing, and the ROM commands that not every tag answers (document 01, "Choosing a tag on the line").
+-- Conditional Search: a tag with an alarm flag joins it, and is then chosen; one without stays silent, and the line is the master's.
+-- Assumes nothing.
 use mathlib.Core.Path.{_≡_, refl, _∙_}
 use mathlib.Core.Bool.{Bool, true, false}
 use mathlib.Core.List.{List, [], _∷_, _++_, map, flatMap}
@@ -13,16 +14,16 @@ use Rattle.exchange.specs.Exchange.{afterReset as exchange-reset}
 use Rattle.exchange.specs.Runs.{run as exchange-run, quietly, chosen}
 use Rattle.exchange.specs.Runs.Laws.{alarmIn, run-choosing}
 use Rattle.image.specs.Answers.{alarmed}
-use Rattle.select.specs.declared.Choosing.the-variants.{Silent}
-use Rattle.select.specs.Select.{clears, romCommand}
+use Rattle.select.specs.declared.Choosing.the-variants.{Silent, Command}
+use Rattle.select.specs.Select.{keeps, clears, romCommand}
 use Rattle.select.specs.Select.Mark.{joins}
 use Rattle.select.specs.Runs.{searchWith, searchAnswers}
 use Rattle.select.specs.Runs.Laws.{run-search, run-unjoined}
 use Rattle.select.specs.Runs.Through.{Lasts, choosing-through}
-use Rattle.tag.specs.Tag.{answerTo}
-use Rattle.promises.specs.Runs.{State, Event, run}
-use Rattle.promises.specs.Runs.Laws.{Sound}
-use Rattle.promises.specs.Line.Slots.{numberOf, answersOf, afterReset, withExchange, slots-quiet, run-reset, Kept}
+use Rattle.tag.specs.Tag.{answerTo, resetTag}
+use Rattle.promises.specs.Runs.{State, Event, after, lineBit, run}
+use Rattle.promises.specs.Runs.Laws.{Sound, reset-happens}
+use Rattle.promises.specs.Line.Slots.{numberOf, answersOf, afterReset, withExchange, line-event, slots-quiet, run-reset, Kept}
 
 length-search : (choices : List Bool) → length (searchWith choices) ≡ 3 * length choices
 unfolding flatMap
@@ -34,6 +35,14 @@ abbrev pub conditional : List Bool → List Event
 conditional bits = Event.reset ∷ map Event.slot (bitsOf 8 0xEC ++ bits)
 
 module _ (s : State) (sound : Sound s) where
+  -- "Reset gives 0 (presence)", and nothing changes, nor the Resume mark; "After reset comes a ROM command", whatever went on before it
+  pub reset-line : let next = after s Event.reset in
+      (lineBit s Event.reset ≡ false) × Kept s next × (next .tag .exchange .select ≡ keeps (s .tag .exchange .select .mark) (Command 0 0))
+  unfolding after resetTag
+  reset-line =
+      let reset = reset-happens sound in
+      (line-event s Event.reset reset, rw reset (record { image = refl; code = refl; counters = refl; number = refl; held = refl }), rw reset)
+
   -- "joined only if BOR, THF or TLF is 1": then the tag gives each bit of its number and the complement, and is chosen by them
   pub joins-conditional : alarmed (s .image) ≡ true → let bits = bitsOf 64 (numberOf s) in
       run s (conditional (searchWith bits)) ≡
