@@ -13,7 +13,6 @@ use Rattle.exchange.specs.declared.Exchange.{Exchange}
 use Rattle.exchange.specs.Exchange.{afterReset as exchange-reset}
 use Rattle.exchange.specs.Runs.{run as exchange-run, quietly, chosen}
 use Rattle.exchange.specs.Runs.Laws.{alarmIn, run-choosing}
-use Rattle.image.specs.Answers.{alarmed}
 use Rattle.select.specs.declared.Choosing.the-variants.{Silent, Command}
 use Rattle.select.specs.Select.{keeps, clears, romCommand}
 use Rattle.select.specs.Select.Mark.{joins}
@@ -21,6 +20,7 @@ use Rattle.select.specs.Runs.{searchWith, searchAnswers}
 use Rattle.select.specs.Runs.Laws.{run-search, run-unjoined}
 use Rattle.select.specs.Runs.Through.{Lasts, choosing-through}
 use Rattle.tag.specs.Tag.{answerTo, resetTag}
+use Rattle.promises.specs.Alarms.{alarmFlag, alarmed-flag}
 use Rattle.promises.specs.Runs.{State, Event, after, lineBit, run}
 use Rattle.promises.specs.Runs.Laws.{Sound, reset-happens}
 use Rattle.promises.specs.Line.Slots.{numberOf, answersOf, afterReset, withExchange, line-event, slots-quiet, run-reset, Kept}
@@ -44,7 +44,7 @@ module _ (s : State) (sound : Sound s) where
       (line-event s Event.reset reset, rw reset (record { image = refl; code = refl; counters = refl; number = refl; held = refl }), rw reset)
 
   -- "joined only if BOR, THF or TLF is 1": then the tag gives each bit of its number and the complement, and is chosen by them
-  pub joins-conditional : alarmed (s .image) ≡ true → let bits = bitsOf 64 (numberOf s) in
+  pub joins-conditional : alarmFlag (s .image) ≡ true → let bits = bitsOf 64 (numberOf s) in
       run s (conditional (searchWith bits)) ≡
       record {
         line = false ∷ (bitsOf 8 0xEC ++ searchAnswers bits);
@@ -54,7 +54,7 @@ module _ (s : State) (sound : Sound s) where
   joins-conditional alarm =
       let x = s .tag .exchange in
       let slots = searchWith (bitsOf 64 (x .number)) in
-      let asked : alarmIn (answersOf s) ≡ true = rw alarm in
+      let asked : alarmIn (answersOf s) ≡ true = rw (alarmed-flag (s .image), alarm) in
       run-reset s (bitsOf 8 0xEC ++ slots) sound
       (slots-quiet (afterReset s) (bitsOf 8 0xEC ++ slots)
       (run-choosing (answersOf s) (exchange-reset x) (bitsOf 8 0xEC ++ slots)
@@ -63,14 +63,14 @@ module _ (s : State) (sound : Sound s) where
       ∙ rw (run-search (x .select) (x .number) 0xEC (alarmIn (answersOf s)) (omega arith) asked)))
 
   -- without any of them the line is the master's, whatever follows
-  pub passes-conditional : (bits : List Bool) → alarmed (s .image) ≡ false → let ran = run s (conditional bits) in
+  pub passes-conditional : (bits : List Bool) → alarmFlag (s .image) ≡ false → let ran = run s (conditional bits) in
       (ran .line ≡ false ∷ (bitsOf 8 0xEC ++ bits)) × Kept s (ran .state)
   unfolding answerTo romCommand Lasts
   passes-conditional bits none =
       let x = s .tag .exchange in
       let slots = bitsOf 8 0xEC ++ bits in
       let silent : Exchange = record { number = x .number; select = clears Silent; held = x .held; bus = exchange-reset x .bus } in
-      let asked : alarmIn (answersOf s) ≡ false = rw none in
+      let asked : alarmIn (answersOf s) ≡ false = rw (alarmed-flag (s .image), none) in
       let unjoined : exchange-run (answersOf s) (exchange-reset x) slots ≡ quietly silent slots =
       run-choosing (answersOf s) (exchange-reset x) slots
       (choosing-through (x .select) (x .number) 0xEC (alarmIn (answersOf s)) bits (omega arith) (rw asked tt))
