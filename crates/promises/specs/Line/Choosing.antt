@@ -2,7 +2,7 @@
 -- an alarm flag; a Match with another number, a Search with another choice, any other byte, a Conditional Search without an alarm flag
 -- and a Resume without the mark leave the tag silent: the line is the master's, whatever follows, and nothing changes. Resume with the
 -- mark chooses. (Read ROM, Match, Search and Skip choose by `session-way` in Slots.) Assumes nothing.
-use mathlib.Core.Path.{_≡_, refl, _∙_}
+use mathlib.Core.Path.{_≡_, refl, sym, ap, _∙_}
 use mathlib.Core.Bool.{Bool, true, false, not}
 use mathlib.Core.List.{List, [], _∷_, _++_, map}
 use mathlib.Core.Logic.{_≢_}
@@ -20,12 +20,12 @@ use Rattle.select.specs.Select.{keeps, resetSelect, romCommand}
 use Rattle.select.specs.Select.Mark.{joins, rom-unknown}
 use Rattle.select.specs.Runs as select
 use Rattle.select.specs.Runs.{searchWith, searchAnswers}
-use Rattle.select.specs.Runs.Laws.{run-search, run-resume}
-use Rattle.select.specs.Runs.Through.{Lasts, choosing-through}
+use Rattle.select.specs.Runs.Laws.{run-silent, run-search, run-resume}
+use Rattle.select.specs.Runs.Through.{Lasts, choosing-while, choosing-through}
 use Rattle.tag.specs.Tag.{answerTo, resetTag}
 use Rattle.promises.specs.Alarms.{alarmFlag, alarmed-flag}
 use Rattle.promises.specs.Line.Dropped.{Dropped, byte-dropped, unknown-byte, match-dropped, length-search, search-dropped}
-use Rattle.promises.specs.Line.Slots.{numberOf, answersOf, afterReset, withExchange, line-event, slots-quiet, run-reset, Kept}
+use Rattle.promises.specs.Line.Slots.{numberOf, answersOf, afterReset, withExchange, line-event, slots-quiet, run-slots, run-reset, Kept}
 use Rattle.promises.specs.Runs.{State, Event, after, lineBit, Ran, run}
 use Rattle.promises.specs.Runs.Laws.{Sound, reset-happens}
 
@@ -36,9 +36,9 @@ rom byte bits = Event.reset ∷ map Event.slot (bitsOf 8 byte ++ bits)
 abbrev pub markOf : State → Bool
 markOf s = s .tag .exchange .select .mark
 
--- the line carries these bits, nothing has changed but the bus state, and the Resume mark is this
+-- the line carries these bits, nothing has changed but the bus state, and the tag is silent, with this Resume mark
 abbrev pub Passes : State → List Bool → Bool → Ran → Type 0
-Passes s line mark ran = (ran .line ≡ line) × Kept s (ran .state) × (markOf (ran .state) ≡ mark)
+Passes s line mark ran = (ran .line ≡ line) × Kept s (ran .state) × (ran .state .tag .exchange .select ≡ keeps mark Silent)
 
 module _ (s : State) (sound : Sound s) where
   -- "Reset gives 0 (presence)", and nothing changes, nor the Resume mark; "After reset comes a ROM command", whatever went on before it
@@ -48,6 +48,20 @@ module _ (s : State) (sound : Sound s) where
   reset-line =
       let reset = reset-happens sound in
       (line-event s Event.reset reset, rw reset (record { image = refl; code = refl; counters = refl; number = refl; held = refl }), rw reset)
+
+  -- a silent tag leaves the line to the master, and stays as it is; so do ticks leave it (`ticks-line` in Converting)
+  pub silent-run : (mark : Bool) (bits : List Bool) → s .tag .exchange .select ≡ keeps mark Silent →
+      run s (map Event.slot bits) ≡ record { line = bits; state = s }
+  unfolding Lasts
+  silent-run mark bits silent =
+      let x = s .tag .exchange in
+      let with : Select → Ran = λ next.
+      record { line = bits; state = withExchange s (record { number = x .number; select = next; held = x .held; bus = x .bus }) } in
+      run-slots s bits sound
+      ∙ slots-quiet s bits
+      (run-choosing (answersOf s) x bits (choosing-while (x .select) (x .number) (alarmIn (answersOf s)) bits (rw silent tt))
+      ∙ rw (silent, run-silent mark (x .number) (alarmIn (answersOf s)) bits))
+      ∙ ap with (sym silent)
 
   -- ---- what select says of slots in which the tag is still being chosen
 
