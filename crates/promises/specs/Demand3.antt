@@ -7,7 +7,6 @@ use mathlib.Core.Logic.{_≢_, _⊎_}
 use Prim.Native.Nat.{ℕ, _≤_}
 use Rattle.bits.specs.Bits.{shiftIn}
 use Rattle.exchange.specs.declared.Exchange.{Exchange}
-use Rattle.image.specs.Answers.{alarmed}
 use Rattle.image.specs.Keeps.{Run}
 use Rattle.image.specs.Leaves.{Flag, Leaves}
 use Rattle.image.specs.Registers.{mip, eosc, passwordControl, readPassword, fullPassword}
@@ -16,6 +15,7 @@ use Rattle.bus.specs.declared.Guarded.{Guarded}
 use Rattle.bus.specs.declared.Hearing.{Hearing}
 use Rattle.bus.specs.declared.Stage.{Stage}
 use Rattle.select.specs.Select.{isSelected, asksAlarm}
+use Rattle.promises.specs.Alarms.{alarmFlag}
 use Rattle.promises.specs.Runs.{State, Event, after, run, ticksOf, Reached, Always, Together, OnSlots}
 pub mod Slot
 pub mod Image
@@ -69,7 +69,7 @@ NoPassword image = OnSlots (λ s bit. (field : ℕ) → EndsField (s .tag .excha
 
 -- 5. "at each completed Conditional Search command both or neither have an alarm flag (BOR, THF or TLF) set"
 abbrev pub AlarmsAgree : State → Event → State → Event → Type 0
-AlarmsAgree s e t f = OnSlots (λ u bit. Conditional (u .tag .exchange) bit → alarmed (s .image) ≡ alarmed (t .image)) s e
+AlarmsAgree s e t f = OnSlots (λ u bit. Conditional (u .tag .exchange) bit → alarmFlag (s .image) ≡ alarmFlag (t .image)) s e
 
 -- premises 1 to 3
 pub record Begins (s t : State) (E F : List Event) : Type 0 where

@@ -1,4 +1,5 @@
 pub mod Runs
+pub mod Alarms
 pub mod Refusals
 pub mod Demand1
 pub mod History

@@ -7,9 +7,9 @@ use Rattle.exchange.specs.declared.Exchange.{Exchange}
 use Rattle.exchange.specs.declared.Slotted.{Slotted}
 use Rattle.exchange.specs.Exchange as exchange
 use Rattle.exchange.specs.Exchange.Laws as exchange-laws
-use Rattle.image.specs.Answers.{alarmed}
 use Rattle.memory.specs.Phases.{opened, lets}
 use Rattle.tag.specs.Tag.{Outcome, answerTo, slotted, resetTag, tickTag}
+use Rattle.promises.specs.Alarms.{alarmFlag, alarmed-flag}
 use Rattle.promises.specs.Demand3.{Conditional, Alike, NoPassword, AlarmsAgree, Demand3}
 use Rattle.promises.specs.Demand3.Reset.{reset-again, reset-opened, begins-guarded}
 use Rattle.promises.specs.Demand3.Left.{Guards, guards-checked, guards-range, guards-after, left-to-ticks, no-full}
@@ -46,14 +46,14 @@ unlet-guarded {u = u} bit g wrong =
 
 module _ {i j : List ℕ} {s t : State} (w : Twins i j s t) (bit : Bool)
     (wrong-s : NoPassword i s (Event.slot bit)) (wrong-t : NoPassword j t (Event.slot bit))
-    (alarms : Conditional (s .tag .exchange) bit → alarmed (s .image) ≡ alarmed (t .image)) where
+    (alarms : Conditional (s .tag .exchange) bit → alarmFlag (s .image) ≡ alarmFlag (t .image)) where
   agree : exchange.slotOf (s .tag .exchange) bit (answers s bit (s .tag .exchange)) ≡ exchange.slotOf (t .tag .exchange) bit (answers t bit (t .tag .exchange))
   unfolding answers answerTo
   agree =
       let x = s .tag .exchange in
       exchange-laws.shut-agree x bit (answers s bit x) (answers t bit x) (w .shut) (unlet-guarded bit (w .guards-s) wrong-s)
       (subst (λ (y : Exchange). lets (exchange.asks y bit) (answers t bit y) ≡ false) (sym (w .same)) (unlet-guarded bit (w .guards-t) wrong-t))
-      (λ asked. rw (asked, alarms (alarm-asked x bit (guards-range (w .guards-s)) asked)))
+      (λ asked. rw (asked, alarmed-flag (s .image), alarmed-flag (t .image), alarms (alarm-asked x bit (guards-range (w .guards-s)) asked)))
       ∙ ap (λ (y : Exchange). exchange.slotOf y bit (answers t bit y)) (w .same)
 
   slot-line : lineBit s (Event.slot bit) ≡ lineBit t (Event.slot bit)

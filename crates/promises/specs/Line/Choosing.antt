@@ -1,70 +1,166 @@
--- Conditional Search: a tag with an alarm flag joins it, and is then chosen; one without stays silent, and the line is the master's
--- (document 01, "Choosing a tag on the line"). Assumes nothing.
-use mathlib.Core.Path.{_≡_, refl, _∙_}
-use mathlib.Core.Bool.{Bool, true, false}
-use mathlib.Core.List.{List, [], _∷_, _++_, map, flatMap}
-use Prim.Native.Nat.{_*_}
+-- A reset, and the ROM commands that not every tag answers (document 01, "Choosing a tag on the line"): Conditional Search is joined with
+-- an alarm flag; a Match with another number, a Search with another choice, any other byte, a Conditional Search without an alarm flag
+-- and a Resume without the mark leave the tag silent: the line is the master's, whatever follows, and nothing changes. Resume with the
+-- mark chooses. (Read ROM, Match, Search and Skip choose by `session-way` in Slots.) Assumes nothing.
+use mathlib.Core.Path.{_≡_, refl, sym, ap, _∙_}
+use mathlib.Core.Bool.{Bool, true, false, not}
+use mathlib.Core.List.{List, [], _∷_, _++_, map}
+use mathlib.Core.Logic.{_≢_}
+use Prim.Native.Nat.{ℕ, _<_, _≤_}
 use native.Mathlib.Omega.{arith}
 use lib.ListN.{length}
-use Rattle.bits.specs.Bits.{bitsOf}
+use Rattle.bits.specs.Bits.{bitOf, bitsOf}
 use Rattle.bits.specs.Bits.Laws.{length-bits}
-use Rattle.exchange.specs.declared.Exchange.{Exchange}
 use Rattle.exchange.specs.Exchange.{afterReset as exchange-reset}
-use Rattle.exchange.specs.Runs.{run as exchange-run, quietly, chosen}
+use Rattle.exchange.specs.Runs.{chosen}
 use Rattle.exchange.specs.Runs.Laws.{alarmIn, run-choosing}
-use Rattle.image.specs.Answers.{alarmed}
-use Rattle.select.specs.declared.Choosing.the-variants.{Silent}
-use Rattle.select.specs.Select.{clears, romCommand}
-use Rattle.select.specs.Select.Mark.{joins}
+use Rattle.select.specs.declared.Choosing.the-variants.{Silent, Command}
+use Rattle.select.specs.declared.Select.{Select}
+use Rattle.select.specs.Select.{keeps, resetSelect, romCommand}
+use Rattle.select.specs.Select.Mark.{joins, rom-unknown}
+use Rattle.select.specs.Runs as select
 use Rattle.select.specs.Runs.{searchWith, searchAnswers}
-use Rattle.select.specs.Runs.Laws.{run-search, run-unjoined}
-use Rattle.select.specs.Runs.Through.{Lasts, choosing-through}
-use Rattle.tag.specs.Tag.{answerTo}
-use Rattle.promises.specs.Runs.{State, Event, run}
-use Rattle.promises.specs.Runs.Laws.{Sound}
-use Rattle.promises.specs.Line.Slots.{numberOf, answersOf, afterReset, withExchange, slots-quiet, run-reset, Kept}
+use Rattle.select.specs.Runs.Laws.{run-silent, run-search, run-resume}
+use Rattle.select.specs.Runs.Through.{Lasts, choosing-while, choosing-through}
+use Rattle.tag.specs.Tag.{answerTo, resetTag}
+use Rattle.promises.specs.Alarms.{alarmFlag, alarmed-flag}
+use Rattle.promises.specs.Line.Dropped.{Dropped, byte-dropped, unknown-byte, match-dropped, length-search, search-dropped}
+use Rattle.promises.specs.Line.Slots.{numberOf, answersOf, afterReset, withExchange, line-event, slots-quiet, run-slots, run-reset, Kept}
+use Rattle.promises.specs.Runs.{State, Event, after, lineBit, Ran, run}
+use Rattle.promises.specs.Runs.Laws.{Sound, reset-happens}
 
-length-search : (choices : List Bool) → length (searchWith choices) ≡ 3 * length choices
-unfolding flatMap
-length-search [] = refl
-length-search (choice ∷ choices) = omega (arith, length-search choices)
+-- a reset and this ROM command byte, and then these slots
+abbrev pub rom : ℕ → List Bool → List Event
+rom byte bits = Event.reset ∷ map Event.slot (bitsOf 8 byte ++ bits)
 
--- a reset and the command byte ECh, and then these slots
-abbrev pub conditional : List Bool → List Event
-conditional bits = Event.reset ∷ map Event.slot (bitsOf 8 0xEC ++ bits)
+abbrev pub markOf : State → Bool
+markOf s = s .tag .exchange .select .mark
+
+-- the line carries these bits, nothing has changed but the bus state, and the tag is silent, with this Resume mark
+abbrev pub Passes : State → List Bool → Bool → Ran → Type 0
+Passes s line mark ran = (ran .line ≡ line) × Kept s (ran .state) × (ran .state .tag .exchange .select ≡ keeps mark Silent)
 
 module _ (s : State) (sound : Sound s) where
+  -- "Reset gives 0 (presence)", and nothing changes, nor the Resume mark; "After reset comes a ROM command", whatever went on before it
+  pub reset-line : let next = after s Event.reset in
+      (lineBit s Event.reset ≡ false) × Kept s next × (next .tag .exchange .select ≡ keeps (markOf s) (Command 0 0))
+  unfolding after resetTag
+  reset-line =
+      let reset = reset-happens sound in
+      (line-event s Event.reset reset, rw reset (record { image = refl; code = refl; counters = refl; number = refl; held = refl }), rw reset)
+
+  -- a silent tag leaves the line to the master, and stays as it is; so do ticks leave it (`ticks-line` in Converting)
+  pub silent-run : (mark : Bool) (bits : List Bool) → s .tag .exchange .select ≡ keeps mark Silent →
+      run s (map Event.slot bits) ≡ record { line = bits; state = s }
+  unfolding Lasts
+  silent-run mark bits silent =
+      let x = s .tag .exchange in
+      let with : Select → Ran = λ next.
+      record { line = bits; state = withExchange s (record { number = x .number; select = next; held = x .held; bus = x .bus }) } in
+      run-slots s bits sound
+      ∙ slots-quiet s bits
+      (run-choosing (answersOf s) x bits (choosing-while (x .select) (x .number) (alarmIn (answersOf s)) bits (rw silent tt))
+      ∙ rw (silent, run-silent mark (x .number) (alarmIn (answersOf s)) bits))
+      ∙ ap with (sym silent)
+
+  -- ---- what select says of slots in which the tag is still being chosen
+
+  abbrev before : Select
+  before = resetSelect (s .tag .exchange .select)
+
+  abbrev alarm : Bool
+  alarm = alarmIn (answersOf s)
+
+  chosen-run : (bits : List Bool) {next : Select} {line : List Bool} →
+      select.stillChoosing before (numberOf s) alarm bits ≡ true →
+      select.run before (numberOf s) alarm bits ≡ record { select = next; line = line } →
+      run s (Event.reset ∷ map Event.slot bits) ≡
+      record {
+        line = false ∷ line;
+        state =
+            withExchange s
+            (record { number = numberOf s; select = next; held = s .tag .exchange .held; bus = exchange-reset (s .tag .exchange) .bus });
+      }
+  chosen-run bits still e =
+      run-reset s bits sound
+      (slots-quiet (afterReset s) bits (run-choosing (answersOf s) (exchange-reset (s .tag .exchange)) bits still ∙ rw e))
+
+  passes-run : (bits : List Bool) {mark : Bool} {line : List Bool} → Dropped (s .tag .exchange .select) (numberOf s) alarm bits mark line →
+      Passes s (false ∷ line) mark (run s (Event.reset ∷ map Event.slot bits))
+  passes-run bits dropped =
+      rw (chosen-run bits (dropped .0) (dropped .1))
+      (refl, record { image = refl; code = refl; counters = refl; number = refl; held = refl }, refl)
+
+  -- by its byte alone
+  passes-byte : (byte : ℕ) (bits : List Bool) {mark : Bool} → byte < 256 → romCommand byte (markOf s) alarm ≡ keeps mark Silent →
+      Passes s (false ∷ (bitsOf 8 byte ++ bits)) mark (run s (rom byte bits))
+  passes-byte byte bits fits e = passes-run (bitsOf 8 byte ++ bits) (byte-dropped (s .tag .exchange .select) (numberOf s) byte alarm bits fits e)
+
+  -- ---- Match and Search
+
+  -- "Match 55h": with 64 bits that are not the number's the tag is silent, whatever follows
+  pub passes-match : (bits more : List Bool) → length bits ≡ 64 → bits ≢ bitsOf 64 (numberOf s) →
+      Passes s (false ∷ (bitsOf 8 0x55 ++ (bits ++ more))) false (run s (rom 0x55 (bits ++ more)))
+  passes-match bits more whole other =
+      passes-run (bitsOf 8 0x55 ++ (bits ++ more)) (match-dropped (s .tag .exchange .select) (numberOf s) alarm bits more whole other)
+
+  -- "drops out if it differs": the choices are the number's first k bits, and then not bit k; from there on the line is the master's
+  pub passes-search : (k : ℕ) (more : List Bool) → k ≤ 63 →
+      let own = bitOf (numberOf s) k in
+      let right = bitsOf k (numberOf s) in
+      Passes s (false ∷ (bitsOf 8 0xF0 ++ (searchAnswers right ++ (own ∷ not own ∷ not own ∷ more)))) false
+      (run s (rom 0xF0 (searchWith right ++ (true ∷ true ∷ not own ∷ more))))
+  passes-search k more low =
+      passes-run (bitsOf 8 0xF0 ++ (searchWith (bitsOf k (numberOf s)) ++ (true ∷ true ∷ not (bitOf (numberOf s) k) ∷ more)))
+      (search-dropped (s .tag .exchange .select) (numberOf s) alarm k more low)
+
+  -- ---- Conditional Search
+
   -- "joined only if BOR, THF or TLF is 1": then the tag gives each bit of its number and the complement, and is chosen by them
-  pub joins-conditional : alarmed (s .image) ≡ true → let bits = bitsOf 64 (numberOf s) in
-      run s (conditional (searchWith bits)) ≡
+  pub joins-conditional : alarmFlag (s .image) ≡ true → let bits = bitsOf 64 (numberOf s) in
+      run s (rom 0xEC (searchWith bits)) ≡
       record {
         line = false ∷ (bitsOf 8 0xEC ++ searchAnswers bits);
         state = withExchange s (chosen (numberOf s) true (s .tag .exchange .held));
       }
   unfolding answerTo romCommand Lasts joins
-  joins-conditional alarm =
+  joins-conditional flag =
       let x = s .tag .exchange in
       let slots = searchWith (bitsOf 64 (x .number)) in
-      let asked : alarmIn (answersOf s) ≡ true = rw alarm in
-      run-reset s (bitsOf 8 0xEC ++ slots) sound
-      (slots-quiet (afterReset s) (bitsOf 8 0xEC ++ slots)
-      (run-choosing (answersOf s) (exchange-reset x) (bitsOf 8 0xEC ++ slots)
-      (choosing-through (x .select) (x .number) 0xEC (alarmIn (answersOf s)) slots (omega arith)
+      let asked : alarm ≡ true = rw (alarmed-flag (s .image), flag) in
+      chosen-run (bitsOf 8 0xEC ++ slots)
+      (choosing-through (x .select) (x .number) 0xEC alarm slots (omega arith)
       (rw asked (omega (arith, length-search (bitsOf 64 (x .number)), length-bits 64 (x .number)))))
-      ∙ rw (run-search (x .select) (x .number) 0xEC (alarmIn (answersOf s)) (omega arith) asked)))
+      (run-search (x .select) (x .number) 0xEC alarm (omega arith) asked)
 
   -- without any of them the line is the master's, whatever follows
-  pub passes-conditional : (bits : List Bool) → alarmed (s .image) ≡ false → let ran = run s (conditional bits) in
-      (ran .line ≡ false ∷ (bitsOf 8 0xEC ++ bits)) × Kept s (ran .state)
-  unfolding answerTo romCommand Lasts
+  pub passes-conditional : (bits : List Bool) → alarmFlag (s .image) ≡ false →
+      Passes s (false ∷ (bitsOf 8 0xEC ++ bits)) false (run s (rom 0xEC bits))
+  unfolding answerTo romCommand
   passes-conditional bits none =
+      let asked : alarm ≡ false = rw (alarmed-flag (s .image), none) in
+      passes-byte 0xEC bits (omega arith) (rw asked)
+
+  -- ---- Resume, and any other byte
+
+  -- "Resume needs" the mark: with it the tag is chosen, as after a whole Match
+  pub joins-resume : markOf s ≡ true →
+      run s (rom 0xA5 []) ≡
+      record { line = false ∷ bitsOf 8 0xA5; state = withExchange s (chosen (numberOf s) true (s .tag .exchange .held)) }
+  unfolding romCommand Lasts bitsOf
+  joins-resume marked =
       let x = s .tag .exchange in
-      let slots = bitsOf 8 0xEC ++ bits in
-      let silent : Exchange = record { number = x .number; select = clears Silent; held = x .held; bus = exchange-reset x .bus } in
-      let asked : alarmIn (answersOf s) ≡ false = rw none in
-      let unjoined : exchange-run (answersOf s) (exchange-reset x) slots ≡ quietly silent slots =
-      run-choosing (answersOf s) (exchange-reset x) slots
-      (choosing-through (x .select) (x .number) 0xEC (alarmIn (answersOf s)) bits (omega arith) (rw asked tt))
-      ∙ rw (asked, run-unjoined (x .select) (x .number) bits) in
-      rw (run-reset s slots sound (slots-quiet (afterReset s) slots unjoined))
-      (refl, record { image = refl; code = refl; counters = refl; number = refl; held = refl })
+      chosen-run (bitsOf 8 0xA5) (choosing-through (x .select) (x .number) 0xA5 alarm [] (omega arith) (rw marked refl))
+      (run-resume (x .select) (x .number) alarm ∙ rw marked)
+
+  -- and without it the tag is silent, whatever follows
+  pub passes-resume : (bits : List Bool) → markOf s ≡ false →
+      Passes s (false ∷ (bitsOf 8 0xA5 ++ bits)) false (run s (rom 0xA5 bits))
+  unfolding romCommand
+  passes-resume bits unmarked = passes-byte 0xA5 bits (omega arith) (rw unmarked)
+
+  -- "Any other byte: silent until reset"; the mark stays
+  pub passes-unknown : (byte : ℕ) (bits : List Bool) → byte < 256 →
+      (byte ≢ 0x33) × (byte ≢ 0x55) × (byte ≢ 0xF0) × (byte ≢ 0xEC) × (byte ≢ 0xCC) × (byte ≢ 0xA5) →
+      Passes s (false ∷ (bitsOf 8 byte ++ bits)) (markOf s) (run s (rom byte bits))
+  passes-unknown byte bits small others = passes-byte byte bits small (rom-unknown byte (markOf s) alarm (unknown-byte byte others))

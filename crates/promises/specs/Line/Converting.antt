@@ -37,8 +37,9 @@ use Rattle.promises.specs.Demand2.Going.{Going, holds-run}
 use Rattle.promises.specs.Demand2.Ticks.{due-of, ended-of, quiet}
 use Rattle.promises.specs.History
 use Rattle.promises.specs.History.Laws.{history-le}
-use Rattle.promises.specs.Runs.{State, Event, after, run, Reached, Always}
-use Rattle.promises.specs.Runs.Laws.{Sound, sound-after, slot-happens, reset-happens, tick-happens, tick-refused}
+use Rattle.promises.specs.Line.Slots.{line-event}
+use Rattle.promises.specs.Runs.{State, Event, after, lineBit, run, Reached, Always}
+use Rattle.promises.specs.Runs.Laws.{Sound, reached-sound, sound-after, slot-happens, reset-happens, tick-happens, tick-refused}
 
 -- ---- alarms
 
@@ -145,6 +146,14 @@ module _ {s : State} (reached : Reached s) (reading : ℕ) (small : reading ≤ 
       rw (tick-leaves (reached-solid reached) reading small)
       (clock-kept (leaves-missionTicked (clocked (s .image)) (s .tag .counters) reading .keeps) tt
       ∙ clock-clocked (s .image) (omega (arith, reached-solid reached .whole .size)))
+
+  -- "a tick 1", and on the line all goes on where it was: the number, scratchpad, TA, E/S, Resume mark and bus state stay
+  pub ticks-line : let e = Event.tick reading in
+      (lineBit s e ≡ true) × (after s e .tag .exchange ≡ s .tag .exchange) × (after s e .tag .code ≡ s .tag .code)
+  unfolding after tickTag
+  ticks-line =
+      let ticked = tick-happens (reached-sound reached) reading small in
+      (line-event s (Event.tick reading) ticked, rw ticked, rw ticked)
 
   -- "Then, in a mission": with none, MIP (bit 1 of 0215h) 0, a tick does nothing else
   pub ticks-idle : flagAt (s .image) 0x0215 1 ≡ false → Leaves ((0x0200, 6) ∷ []) [] (s .image) (after s (Event.tick reading) .image)

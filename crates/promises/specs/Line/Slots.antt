@@ -115,7 +115,7 @@ after-event : (s : State) (e : Event) {out : Outcome} → happens s e ≡ out �
 unfolding after
 after-event s e h = ap leaves h
 
-line-event : (s : State) (e : Event) {out : Outcome} → happens s e ≡ out → lineBit s e ≡ out .answered .line
+pub line-event : (s : State) (e : Event) {out : Outcome} → happens s e ≡ out → lineBit s e ≡ out .answered .line
 line-event s e h = ap (λ (o : Outcome). o .answered .line) h
 
 run-event : (s : State) (e : Event) (es : List Event) {out : Outcome} → happens s e ≡ out →

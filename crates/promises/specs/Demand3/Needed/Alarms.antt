@@ -17,6 +17,7 @@ use Rattle.select.specs.declared.Select.{Select}
 use Rattle.select.specs.Runs as runs
 use Rattle.select.specs.Select.{slotOf, isSelected}
 use Rattle.tag.specs.Tag.{answerTo}
+use Rattle.promises.specs.Alarms.{alarmFlag}
 use Rattle.promises.specs.Demand3.{NoPassword, EndsField, AlarmsAgree}
 use Rattle.promises.specs.Line.Slots.{withExchange, answersOf, run-slots, slots-quiet}
 use Rattle.promises.specs.Runs.{State, Event, after, Ran, run, Always, Together, OnSlots}
@@ -89,7 +90,7 @@ choosing-carries-none i j u bits sound still =
 -- ---- the alarms agree
 
 -- of two tags that both have an alarm flag set, or both none, as long as they are being chosen
-pub choosing-agree : (u v : State) (bits : List Bool) → Sound u → Sound v → Choosing u bits → Choosing v bits → alarmed (u .image) ≡ alarmed (v .image) →
+pub choosing-agree : (u v : State) (bits : List Bool) → Sound u → Sound v → Choosing u bits → Choosing v bits → alarmFlag (u .image) ≡ alarmFlag (v .image) →
     Together AlarmsAgree u (map Event.slot bits) v (map Event.slot bits)
 unfolding Together runs.stillChoosing
 choosing-agree u v [] sound-u sound-v still-u still-v agree = tt

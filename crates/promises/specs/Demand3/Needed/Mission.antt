@@ -34,6 +34,7 @@ use Rattle.mission.specs.declared.Counters.{Counters}
 use Rattle.select.specs.Runs as runs
 use Rattle.select.specs.Select as select
 use Rattle.tag.specs.Tag.Laws.{length-new}
+use Rattle.promises.specs.Alarms.{alarmFlag, alarmed-flag}
 use Rattle.promises.specs.Demand2.Course.{Solid, reached-solid, tick-leaves}
 use Rattle.promises.specs.Demand3.{JustReset, Alike}
 use Rattle.promises.specs.Demand3.Needed.{Sometime, Joins, MissionMet}
@@ -120,6 +121,9 @@ module _ {keys : List ℕ} {s : State} (p : UnderWay keys s) (reading : ℕ) (lo
   unfolding alarmed
   warm-alarmed = rw warm-flag (simp or-true)
 
+  warm-flagged : alarmFlag (warm .image) ≡ true
+  warm-flagged = sym (alarmed-flag (warm .image)) ∙ warm-alarmed
+
   warm-waits : warm .tag .exchange ≡ waiting number pad
   warm-waits = rw (tick-leaves solid reading low) (p .waits)
 
@@ -138,7 +142,7 @@ module _ {keys : List ℕ} {s : State} (p : UnderWay keys s) (reading : ℕ) (lo
   unfolding runs.run select.slotOf select.slotAt select.commandBit select.romCommand select.endsCommand select.isChosen bitOf shiftIn
   joining =
       subst (λ (r : Ran). Joins (r .state) true) (sym (choosing-run warm begun warm-sound begun-chooses))
-      ((rw warm-waits), warm-alarmed)
+      ((rw warm-waits), warm-flagged)
 
   joined : Sometime Joins s (Event.tick reading ∷ map Event.slot search)
   unfolding bitsOf bitOf
@@ -351,7 +355,7 @@ module _ {keys others : List ℕ} {s t : State} (p : UnderWay keys s) (q : Under
           );
           alarms = (
             tt,
-            choosing-agree u v search sound-u sound-v chooses-u chooses-v (warm-alarmed p 672 (omega arith) ∙ sym (warm-alarmed q 1391 (omega arith))),
+            choosing-agree u v search sound-u sound-v chooses-u chooses-v (warm-flagged p 672 (omega arith) ∙ sym (warm-flagged q 1391 (omega arith))),
           );
         };
         running-s = p .running;

@@ -20,6 +20,7 @@ use Rattle.image.specs.Sent.Laws.{sent-user}
 use Rattle.bus.specs.declared.Control.{Control}
 use Rattle.select.specs.Runs as runs
 use Rattle.select.specs.Select as select
+use Rattle.promises.specs.Alarms.{alarmed-flag}
 use Rattle.promises.specs.Demand3.{Alike, NoPassword, AlarmsAgree, Begins, NoneCarried, spoiltRuns, LeftToTicks}
 use Rattle.promises.specs.Demand3.Needed.{PremisesMet, FieldsNeeded, AlarmsNeeded, SpoilsWithPassword}
 use Rattle.promises.specs.Demand3.Needed.Alarms.{search, Choosing, choosing-line, choosing-carries-none}
@@ -95,7 +96,7 @@ premises-met =
       read = rw (← right-first) (right-second .0);
       full = full-differs;
       memory = λ e. omega (arith, first-user 0x0000 (omega arith), second-user);
-      flags = λ e. true≢false (sym (first-prepared .flags) ∙ e ∙ second-prepared .flags);
+      flags = λ e. true≢false (sym (first-prepared .flags) ∙ alarmed-flag (first .image) ∙ e ∙ sym (alarmed-flag (second .image)) ∙ second-prepared .flags);
       readings = strangers-differ;
       field = wrong;
       tried-s =
