@@ -1,15 +1,15 @@
 -- The (P) points of document 01, "Points on both sides of a line": one table of what the definitions give and what the document says,
--- one test that is computed over it, one statement. Assumes nothing.
+-- one test that is computed over it, one statement. Beside it a table of other bytes that follow from its sentences. Assumes nothing.
 use mathlib.Core.Bool.{Bool, true, false, _&&_, xor}
-use mathlib.Core.List.{List, [], _∷_, flatMap}
+use mathlib.Core.List.{List, [], _∷_, _++_, flatMap}
 use Prim.Native.Nat.{ℕ, suc}
 use lib.Dec.{T, eqb}
 use lib.IntN.{ℤ, pos, negsuc}
-use lib.ListN.{take}
-use Rattle.bits.specs.Bits.{digit, bitOf, bitsOf, shiftIn, slotsOf}
+use lib.ListN.{take, drop}
+use Rattle.bits.specs.Bits.{digit, bitOf, bitsOf, numberOf, shiftIn, slotsOf, released}
 use Rattle.calendar.specs.Calendar.{nextSecond, nextDay, carried, stepHours, stepMonth, stepField, isValid, plusOne, flipped, isLeap, daysIn, decimal}
 use Rattle.calendar.specs.declared.Clock.{Clock}
-use Rattle.crc.specs.Crc.{taps, crcBit, crcBits, mask8, crc8Of}
+use Rattle.crc.specs.Crc.{taps, crcBit, crcBits, crcByte, mask8, crc8Of, mask16, sentLow, sentHigh}
 use Rattle.dock.specs.Entries
 use Rattle.dock.specs.Entries.{temperatureOf}
 use Rattle.bus.specs.declared.Hearing.{Hearing}
@@ -18,6 +18,7 @@ use Rattle.bus.specs.Bus.{newHeld, clearBus}
 use Rattle.memory.specs.Hear.{commandStage, addressHeard, stored, afterData, heardWhole, heardBit}
 use Rattle.memory.specs.Memory.{stageAsks, asks, stageSlot, onLine, slotOf}
 use Rattle.memory.specs.Runs.{Ran, run}
+use Rattle.memory.specs.Send.{firstByte, afterCrc, sentWhole, outgoing, sentBit, sendAsks}
 use Rattle.mission.specs.Mission
 use Rattle.conversion.specs.Conversion.{isHigh, isLow}
 use Rattle.promises.specs.History.{Settings, period}
@@ -57,6 +58,25 @@ sends (Stage.Hears h) = 0
 sends Stage.Over = 0
 sends (Stage.Gathers g) = 0
 sends Stage.Copied = 0
+
+-- the next two bytes that go out after a run
+abbrev pub sent : Ran → List ℕ
+sent ran =
+    let line = run (λ question. 0) (ran .held) (ran .bus) (released 16) .line in
+    numberOf (take 8 line) ∷ numberOf (drop 8 line) ∷ []
+
+-- date and month after a day of the year 23 has ended
+abbrev pub dayAfter : ℕ → ℕ → List ℕ
+dayAfter date month =
+    let c = nextSecond (clock 0x59 0x59 0x23 date month 0x23) in
+    c .date ∷ c .month ∷ []
+
+-- a month of 31 days and one of 30, with the month after it
+abbrev pub long : ℕ → ℕ → Point
+long month next = dayAfter 0x30 month ++ dayAfter 0x31 month gives 0x31 ∷ month ∷ 0x01 ∷ next ∷ []
+
+abbrev pub short : ℕ → ℕ → Point
+short month next = dayAfter 0x29 month ++ dayAfter 0x30 month gives 0x30 ∷ month ∷ 0x01 ∷ next ∷ []
 
 -- a mission's settings with this rate in minutes, for its history
 abbrev pub minutes : ℕ → Settings
@@ -105,7 +125,37 @@ table =
     ∷ (sends (writing 3 .bus .stage) ∷ sends (writing 6 .bus .stage) ∷ sends (writing 7 .bus .stage) ∷ [] gives 0 ∷ 0 ∷ 1 ∷ [])
     ∷ []
 
--- ---- the test, and the statement
+-- ---- beside it
+
+unfoldable pub further : List Point
+further =
+    -- "CRC-16 is x^16+x^15+x^2+1, from 0, sent inverted, low byte first": of 0F 3C 01 A0 A1 A2 A3 it is 078Dh, and 72 F8 go out
+    (sent (writing 7) gives 0x72 ∷ 0xF8 ∷ [])
+    -- the months but February
+    ∷ long 0x01 0x02
+    ∷ long 0x03 0x04
+    ∷ short 0x04 0x05
+    ∷ long 0x05 0x06
+    ∷ short 0x06 0x07
+    ∷ long 0x07 0x08
+    ∷ long 0x08 0x09
+    ∷ short 0x09 0x10
+    ∷ long 0x10 0x11
+    ∷ short 0x11 0x12
+    ∷ long 0x12 0x01
+    -- "a field at its last value, or not valid, returns to its lowest and carries": 31 April, second 5A, minute 60, hour 24, date 00
+    ∷ (dayAfter 0x31 0x04 gives 0x01 ∷ 0x05 ∷ [])
+    ∷ (six (nextSecond (clock 0x5A 0x00 0x00 0x01 0x01 0x23)) gives 0x00 ∷ 0x01 ∷ 0x00 ∷ 0x01 ∷ 0x01 ∷ 0x23 ∷ [])
+    ∷ (six (nextSecond (clock 0x59 0x60 0x00 0x01 0x01 0x23)) gives 0x00 ∷ 0x00 ∷ 0x01 ∷ 0x01 ∷ 0x01 ∷ 0x23 ∷ [])
+    ∷ (six (nextSecond (clock 0x59 0x59 0x24 0x01 0x01 0x23)) gives 0x00 ∷ 0x00 ∷ 0x00 ∷ 0x02 ∷ 0x01 ∷ 0x23 ∷ [])
+    ∷ (dayAfter 0x00 0x04 gives 0x01 ∷ 0x05 ∷ [])
+    -- "an invalid month has 31, an invalid year no leap day": month 13, which then carries into the year; year A4
+    ∷ long 0x13 0x01
+    ∷ (six (nextSecond (clock 0x59 0x59 0x23 0x31 0x13 0x23)) gives 0x00 ∷ 0x00 ∷ 0x00 ∷ 0x01 ∷ 0x01 ∷ 0x24 ∷ [])
+    ∷ (six (nextSecond (clock 0x59 0x59 0x23 0x28 0x02 0xA4)) gives 0x00 ∷ 0x00 ∷ 0x00 ∷ 0x01 ∷ 0x03 ∷ 0xA4 ∷ [])
+    ∷ []
+
+-- ---- the test, and the statements
 
 abbrev pub same : List ℕ → List ℕ → Bool
 same [] [] = true
@@ -121,3 +171,8 @@ pub points : T (right table)
 unfolding table taps crcBit crcBits mask8 crc8Of bitOf bitsOf xor temperatureOf nextSecond nextDay carried stepHours stepMonth stepField isValid plusOne flipped isLeap daysIn decimal isHigh isLow Mission.periodOf Entries.periodOf period
     run slotOf stageSlot onLine asks stageAsks heardBit heardWhole addressHeard stored commandStage afterData shiftIn flatMap
 points = tt
+
+pub further-points : T (right further)
+unfolding further taps crcBit crcBits crcByte mask16 sentLow sentHigh bitOf bitsOf numberOf xor nextSecond nextDay carried stepHours stepMonth stepField isValid plusOne flipped isLeap daysIn decimal
+    run slotOf stageSlot onLine asks stageAsks heardBit heardWhole addressHeard stored commandStage afterData shiftIn flatMap firstByte afterCrc sentWhole outgoing sentBit sendAsks
+further-points = tt

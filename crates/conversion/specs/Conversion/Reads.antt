@@ -22,6 +22,29 @@ use Rattle.conversion.specs.Conversion.{deviceCounted, resolved, latestS
 use Rattle.conversion.specs.Conversion.Frames.{leaves-logged, leaves-stamped}
 use Rattle.conversion.specs.Conversion.Whole.{Whole}
 
+-- one byte of the log, from byte 640 of the image on
+byte-set : (image : List ℕ) (i j v : ℕ) → 640 + i < length image
+    → getD (set image (640 + i) v) (640 + j) 0 ≡ if eqb j i then v else getD image (640 + j) 0
+byte-set image i j v fits =
+    dite (ℕ-discrete j i) (λ e. rw (e, eq-eqb i i refl, getD-set-same image (640 + i) v 0 fits))
+    (λ ne. rw (ne-eqb j i ne, getD-set-other image (640 + i) (640 + j) v 0 (omega arith)))
+
+-- of two numbers that differ either may be asked for first
+either-way : (j a b u v n : ℕ) → (a ≡ b → ⊥)
+    → (if eqb j b then u else if eqb j a then v else n) ≡ if eqb j a then v else if eqb j b then u else n
+either-way j a b u v n ne =
+    dite (ℕ-discrete j a) (λ e. rw (e, eq-eqb a a refl, ne-eqb a b ne)) (λ other. rw (ne-eqb j a other))
+
+-- byte j of the log when `reading` is logged as entry k, where it was `old`
+unfoldable pub byteLogged : Bool → ℕ → ℕ → ℕ → ℕ → ℕ
+byteLogged wide k reading j old =
+    if wide then
+    (if eqb j (2 * (k % 4096)) then reading / 8 % 256
+    else if eqb j (2 * (k % 4096) + 1) then reading % 8 * 32
+    else old)
+    else if eqb j (k % 8192) then reading / 8 % 256
+    else old
+
 -- an entry of one byte, and one of two, at place q
 one-byte : (image : List ℕ) (q place v : ℕ) → 640 + q < length image
     → getD (set image (640 + q) v) (640 + place) 0 * 8 ≡ if eqb place q then v * 8 else getD image (640 + place) 0 * 8
@@ -104,6 +127,35 @@ module _ {image : List ℕ} (w : Whole image) where
   stamp-counted = stamp-kept (keeps-putWord (stamped image) 0x0220 3 _) tt ∙ stamp-stamped
 
   -- ---- the log
+
+  -- each byte of the log: an entry's own, one or two, and every other as it was
+  pub byte-logged : (k reading j : ℕ) → getD (logged image k reading) (640 + j) 0 ≡ byteLogged (tlfs image) k reading j (getD image (640 + j) 0)
+  unfolding logged byteLogged places
+  byte-logged k reading j = by-format (tlfs image)
+    where
+      high : ℕ
+      high = reading / 8 % 256
+
+      low : ℕ
+      low = reading % 8 * 32
+
+      by-format : (t : Bool)
+          → (let q = k % (if t then 4096 else 8192) in
+          getD (if t then set (set image (640 + 2 * q) high) (641 + 2 * q) low else set image (640 + q) high) (640 + j) 0)
+          ≡ (let old = getD image (640 + j) 0 in
+          if t then (if eqb j (2 * (k % 4096)) then high else if eqb j (2 * (k % 4096) + 1) then low else old)
+          else if eqb j (k % 8192) then high
+          else old)
+      by-format true =
+          let q = k % 4096 in
+          let one = set image (640 + 2 * q) high in
+          let next : 641 + 2 * q ≡ 640 + (2 * q + 1) = omega arith in
+          let inside : 640 + (2 * q + 1) < length one = rw (length-set image (640 + 2 * q) high) (omega (arith, w .size)) in
+          rw next
+          (byte-set one (2 * q + 1) j low inside
+          ∙ ap (λ (n : ℕ). if eqb j (2 * q + 1) then low else n) (byte-set image (2 * q) j high (omega (arith, w .size)))
+          ∙ either-way j (2 * q) (2 * q + 1) low high (getD image (640 + j) 0) (omega arith))
+      by-format false = byte-set image (k % 8192) j high (omega (arith, w .size))
 
   -- entry k is read back at its place, and every other place holds what it held
   pub entry-logged : (k reading place : ℕ) → place < places image

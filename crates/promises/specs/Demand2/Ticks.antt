@@ -41,7 +41,7 @@ module _ {start image : List ℕ} {es : List Conversion} {t : ℕ} {c : Counters
   pub due-of : Mission.due image c ≡ History.isTime (settingsOf start) (t + 1)
   due-of = rw (add-one t, isTime-of start) (due-time (q .time))
 
-  nextEntry-of : conversion.nextEntry image ≡ length es
+  pub nextEntry-of : conversion.nextEntry image ≡ length es
   unfolding conversion.nextEntry
   nextEntry-of =
       rw (q .waiting, p .settings .suta)

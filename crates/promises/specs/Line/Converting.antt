@@ -1,6 +1,7 @@
 -- What ticks do to the registers, said by document 01's addresses and bits ("A mission"): the clock's second; in a mission the delay, and
--- at a conversion time what becomes of device samples, latest reading, THF and TLF, mission samples and WFTA. Which ticks are conversion
--- times is said by `History`; stamp and log are what a listing shows (Demand2). Assumes nothing.
+-- at a conversion time what becomes of device samples, latest reading, THF and TLF, mission samples, WFTA and each byte of the log. Which
+-- ticks are conversion times, and how many entries there are, is said by `History`; the stamp is what a listing shows (Demand2). Assumes
+-- nothing.
 use mathlib.Core.Path.{_≡_, refl, ap, _∙_}
 use mathlib.Core.Bool.{Bool, true, false, not, _&&_, _||_, and-false}
 use mathlib.Core.List.{List, [], _∷_}
@@ -9,7 +10,7 @@ use Prim.Native.Nat.{ℕ, _+_, _-_, _*_, _/_, _%_, _≤_, _<_, min}
 use native.Mathlib.Decide.{decLe}
 use native.Mathlib.Omega.{arith}
 use borrow.Author.Tests.{lt-leb, le-leb}
-use lib.Dec.{leb}
+use lib.Dec.{eqb, leb}
 use lib.ListN.{length, getD}
 use Rattle.answer.specs.declared.Answer.{Answer}
 use Rattle.bits.specs.Choose.{if_then_else_, choice}
@@ -22,8 +23,9 @@ use Rattle.conversion.specs.Clock.{clockOf, clocked}
 use Rattle.conversion.specs.Clock.Laws.{clock-kept, leaves-clocked}
 use Rattle.conversion.specs.Conversion as conversion
 use Rattle.mission.specs.Mission
-use Rattle.conversion.specs.Conversion.Converts.{Converts}
+use Rattle.conversion.specs.Conversion.Converts.{Converts, logs}
 use Rattle.conversion.specs.Conversion.Frames.{leaves-converted}
+use Rattle.conversion.specs.Conversion.Reads.{byteLogged}
 use Rattle.mission.specs.Mission.Frames.{leaves-missionTicked}
 use Rattle.mission.specs.Mission.Ticks.{clock-clocked, ticked-idle, ticked-due, converts-ticked}
 use Rattle.mission.specs.declared.Counters.{Counters}
@@ -34,7 +36,7 @@ use Rattle.promises.specs.Demand2.Course.{Solid, reached-solid, starts-a
 use Rattle.promises.specs.Demand2.Events.{Starts, missionTicks}
 use Rattle.promises.specs.Demand2.Holds.{Holds}
 use Rattle.promises.specs.Demand2.Going.{Going, holds-run}
-use Rattle.promises.specs.Demand2.Ticks.{due-of, ended-of, quiet}
+use Rattle.promises.specs.Demand2.Ticks.{due-of, ended-of, nextEntry-of, quiet}
 use Rattle.promises.specs.History
 use Rattle.promises.specs.History.Laws.{history-le}
 use Rattle.promises.specs.Line.Slots.{line-event}
@@ -55,9 +57,22 @@ lowAlarm image reading = flagAt image 0x0210 0 && leb (reading / 8) (getD image 
 abbrev pub waits : List ℕ → Bool
 waits image = flagAt image 0x0213 5 && flagAt image 0x0215 4
 
--- ---- what becomes of the registers
+-- ---- the log
 
-pub record Converted (reading : ℕ) (before after : List ℕ) : Type 0 where
+-- "Entry k lies at place k mod 8192 (one byte, reading divided by 8) or k mod 4096 (two bytes, as 020Dh then 020Ch)": "020Ch reading bits
+-- 2-0 in bits 7-5, 020Dh bits 10-3". Byte j of the log when entry k is logged, where it was `old`
+unfoldable pub logByte : Bool → ℕ → ℕ → ℕ → ℕ → ℕ
+logByte tlfs k reading j old =
+    if tlfs then
+    (if eqb j (2 * (k % 4096)) then reading / 8
+    else if eqb j (2 * (k % 4096) + 1) then reading % 8 * 32
+    else old)
+    else if eqb j (k % 8192) then reading / 8
+    else old
+
+-- ---- what becomes of the registers and the log, when k entries are logged before it
+
+pub record Converted (k reading : ℕ) (before after : List ℕ) : Type 0 where
   -- "adds 1 to device samples"; "Device samples stays at FFFFFFh"
   pub device : wordAt after 0x0223 3 ≡ min (wordAt before 0x0223 3 + 1) 0xFFFFFF
   -- "stores the latest reading (low three bits 0 with TLFS 0)": "020Ch reading bits 2-0 in bits 7-5, 020Dh bits 10-3"
@@ -71,7 +86,13 @@ pub record Converted (reading : ℕ) (before after : List ℕ) : Type 0 where
   pub wfta : flagAt after 0x0215 4
       ≡ if waits before && (highAlarm before reading || lowAlarm before reading) then false
       else flagAt before 0x0215 4
-  -- beside these only the clock, the stamp and the log
+  -- the log, bytes 640 to 8,831: TLFS is bit 2 of 0213h. "With SUTA nothing is logged until a conversion alarms"
+  pub log : (j : ℕ) → j < 8192 →
+      getD after (640 + j) 0
+      ≡ if not (waits before) || (highAlarm before reading || lowAlarm before reading) then
+      logByte (flagAt before 0x0213 2) k reading j (getD before (640 + j) 0)
+      else getD before (640 + j) 0
+  -- beside these only the clock and the stamp
   pub rest : Leaves ((0x0200, 6) ∷ (0x020C, 2) ∷ (0x0219, 6) ∷ (0x0220, 3) ∷ (0x0223, 3) ∷ (640, 8192) ∷ [])
       ((0x0214, 0) ∷ (0x0214, 1) ∷ (0x0215, 4) ∷ []) before after
 
@@ -79,10 +100,12 @@ pub record Converted (reading : ℕ) (before after : List ℕ) : Type 0 where
 converted-by : {before after : List ℕ} {clock : Clock} (reading : ℕ) → reading ≤ 2047 → Converts before clock reading after →
     Leaves ((0x0200, 6) ∷ (0x020C, 2) ∷ (0x0219, 6) ∷ (0x0220, 3) ∷ (0x0223, 3) ∷ (640, 8192) ∷ [])
     ((0x0214, 0) ∷ (0x0214, 1) ∷ (0x0215, 4) ∷ []) before after →
-    Converted reading before after
+    Converted (conversion.nextEntry before) reading before after
 unfolding conversion.resolved conversion.alarms conversion.alarmsHigh conversion.alarmsLow conversion.isHigh conversion.isLow conversion.waiting
+    logs byteLogged logByte
 converted-by reading small made left =
     let whole : reading % 2048 ≡ reading = omega arith in
+    let byte : reading / 8 % 256 ≡ reading / 8 = omega arith in
     record {
       device = made .deviceSamples;
       latest = rw whole at (made .latest);
@@ -90,6 +113,7 @@ converted-by reading small made left =
       tlf = made .tlf;
       samples = made .log .missionSamples;
       wfta = made .log .wfta;
+      log = λ j h. rw byte at (made .log .bytes j h);
       rest = left;
     }
 
@@ -188,7 +212,7 @@ module _ {s : State} (e : Event) (events : List Event) (reached : Reached s) (st
     -- at a conversion time, while conversions have not ended
     pub mission-converts : History.isTime (settingsOf (begun .image)) (length readings + 1) ≡ true →
         length (History.history (settingsOf (begun .image)) readings) < History.most (settingsOf (begun .image)) →
-        Converted reading (there .image) (after there (Event.tick reading) .image)
+        Converted (length (History.history (settingsOf (begun .image)) readings)) reading (there .image) (after there (Event.tick reading) .image)
     mission-converts time more =
         let listed = holding .1 .listed in
         let running = holding .1 .running in
@@ -197,7 +221,7 @@ module _ {s : State} (e : Event) (events : List Event) (reached : Reached s) (st
         let ended = ended-of listed running (history-le (settingsOf (begun .image)) readings) ∙ lt-leb most _ more in
         let image = there .image in
         let counters = there .tag .counters in
-        rw (tick-leaves (holding .0) reading small)
+        rw (tick-leaves (holding .0) reading small, ← nextEntry-of listed running)
         (converted-by reading small (converts-ticked image counters reading (listed .whole) due ended)
         (rw (ticked-due image counters reading due)
         (leaves-then (leaves-wider tt (leaves-clocked image)) (leaves-wider tt (leaves-converted _ reading)))))
