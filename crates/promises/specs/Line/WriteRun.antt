@@ -16,7 +16,6 @@ use Rattle.exchange.specs.Runs.{run, quietly, commanding, chosen}
 use Rattle.exchange.specs.Runs.Laws.{run-nil, quiet-then, run-quiet}
 use Rattle.bus.specs.declared.Addressed.{Addressed}
 use Rattle.bus.specs.declared.Bus.{Bus}
-use Rattle.bus.specs.declared.Deed.{Deed}
 use Rattle.bus.specs.declared.Hearing.{Hearing}
 use Rattle.bus.specs.declared.Held.{Held}
 use Rattle.bus.specs.declared.Question.{Question}

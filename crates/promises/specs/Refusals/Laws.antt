@@ -26,7 +26,7 @@ use Rattle.mission.specs.Mission.{countersInRange}
 use Rattle.tag.specs.declared.Tag.{Tag}
 use Rattle.tag.specs.Tag.{goodNumber, goodCode, tagInRange, newTag, step}
 use Rattle.tag.specs.Tag.Laws.{eventAnswer, stepAnswer, newAnswer, step-answer, new-answer}
-use Rattle.promises.specs.Refusals.{isRom, isConfiguration, newNumber, clearTag, keepsRanges, ownNumber, eventNumber, firstOf, isDigit, areDigits, isLine, hasCrc, lineNumber, linesNumber, isFlagged, samples, entries, places, held, cannotBe, contentNumber, dumpNumber}
+use Rattle.promises.specs.Refusals.{isRom, isConfiguration, newNumber, clearTag, keepsRanges, ownNumber, eventNumber, firstOf, isDigit, areDigits, isLine, hasCrc, lineNumber, linesNumber, entries, held, cannotBe, contentNumber, dumpNumber}
 
 -- the number of an answer that is chosen is chosen by the same test
 numbered : (test : Bool) (a b : Answer) {m n : ℕ} → answerNumber a ≡ m → answerNumber b ≡ n →
