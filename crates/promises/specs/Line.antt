@@ -25,6 +25,7 @@ pub mod Pages
 pub mod Back
 pub mod Commands
 pub mod ReadRun
+pub mod WriteRun
 pub mod CopyRun
 pub mod ControlRun
 pub mod Deeds

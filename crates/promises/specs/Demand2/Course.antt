@@ -215,7 +215,7 @@ unfolding deedAt
 slot-stores solid bit spares e = rw (slot-leaves solid bit) at (spares .store e)
 
 slot-clears : {s : State} (bit : Bool) → Spares s (Event.slot bit) → slotAt s bit .deed ≡ Deed.Clear → Registers.mip (s .image) ≡ true
-unfolding deedAt
+unfolding deedAt flagAt
 slot-clears bit spares = spares .clear
 
 stopped-after : {start : List ℕ} {es : List Conversion} {s : State} → Solid s → (e : Event) → Spares s e → Stopped start es (s .image)

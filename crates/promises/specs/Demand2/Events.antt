@@ -8,7 +8,6 @@ use lib.Dec.{leb}
 use Rattle.bits.specs.Choose.{if_then_else_}
 use Rattle.exchange.specs.declared.Slotted.{Slotted}
 use Rattle.exchange.specs.Exchange as exchange
-use Rattle.image.specs.Registers
 use Rattle.bus.specs.declared.Deed.{Deed}
 use Rattle.tag.specs.Tag.{answerTo}
 use Rattle.promises.specs.Demand2.AtStart.{bitAt, rateAt}
@@ -45,7 +44,7 @@ pub record Starts (s : State) (e : Event) : Type 0 where
 -- a Copy that is done here stores below 0200h or from 0240h on; a Clear is not done, since a mission runs. Refused events may come
 pub record Spares (s : State) (e : Event) : Type 0 where
   pub store : deedAt s e ≡ Deed.Store → (after s e .tag .exchange .held .ta < 0x0200) ⊎ (0x0240 ≤ after s e .tag .exchange .held .ta)
-  pub clear : deedAt s e ≡ Deed.Clear → Registers.mip (s .image) ≡ true
+  pub clear : deedAt s e ≡ Deed.Clear → bitAt (s .image) 0x0215 1 ≡ true
 
 -- ---- the mission's ticks: those up to the first Stop; one with a reading above 2047 is refused, and is none
 

@@ -1,8 +1,8 @@
 -- What Write Scratchpad wrote, Read Scratchpad shows; with a password that passes, Copy stores exactly that through the tables and
 -- sends 0,1,0,1 on; Read Memory gives it back, registers as document 01's own tables say (`Back`). With one that does not, with another
--- address or E/S than the held ones, and after data that stops short of the page's end or has a broken byte, Copy stores nothing and
--- the line is the master's. (Document 01, "Memory commands".) A reached tag's scratchpad has 32 bytes (`reached-pad`), and its TA 16
--- bits (`reached-ta`). Assumes nothing.
+-- address or E/S than the held ones, and after no data, data that stops short of the page's end or a broken byte (`writes-part`,
+-- `part-uncopied`), Copy stores nothing and the line is the master's. (Document 01, "Memory commands".) A reached tag's scratchpad has
+-- 32 bytes (`reached-pad`), and its TA 16 bits (`reached-ta`). Assumes nothing.
 use mathlib.Core.Path.{_≡_, refl, ap, _∙_}
 use mathlib.Core.Bool.{Bool, true, false, and-false}
 use mathlib.Core.List.{List, [], _∷_, _++_}
@@ -39,6 +39,7 @@ use Rattle.promises.specs.Line.Reading.{reads-memory}
 use Rattle.promises.specs.Line.Back.{bytesBack, bytes-back}
 use Rattle.promises.specs.Line.Pad.{reached-pad, reached-ta}
 use Rattle.promises.specs.Line.Passwords.{PassesFull, PassesRead, Copyable, Barred, read-may, copy-may, copy-may-not}
+use Rattle.promises.specs.Line.WriteRun.{writtenPart, partSlots, part-run, part-unlike}
 use Rattle.promises.specs.Line.CopyRun.{copyHead, copyBus, copy-head, copy-field, copy-other, copies-right, Unlike, copies-unlike, status-lt}
 
 -- ---- Write Scratchpad, Read Scratchpad
@@ -73,6 +74,22 @@ reads-scratchpad s sound way long =
     let held = s .tag .exchange .held in
     kept-by s (session-quiet s sound way _
     (run-quiet (answersOf s) (numberOf s) (wayMark way) held (clearBus (Stage.Hears Hearing.Command)) _ (read-scratchpad (answersOf s) held long)))
+
+-- a Write Scratchpad that ends before the page's last byte is whole, after its address, after whole bytes or within the next
+-- (`bits`, of which there may be none): TA, E/S and the whole bytes are held as document 01 says (`writtenPart`), PF is 1 without data
+-- and with a broken byte (`pfAfter`), and nothing else changes
+pub writes-part : (s : State) (sound : Sound s) (way : Way) (address : ℕ) (bytes : List ℕ) (bits : List Bool) → length (s .tag .exchange .held .pad) ≡ 32 →
+    address < 65536 → address % 32 + length bytes < 32 → ((i : ℕ) → getD bytes i 0 < 256) → length bits < 8 →
+    let ran = run s (session s way (partSlots address bytes bits)) in
+    (ran .line ≡ greeting s way ++ partSlots address bytes bits)
+    × (ran .state .image ≡ s .image)
+    × (ran .state .tag .counters ≡ s .tag .counters)
+    × (ran .state .tag .exchange .held ≡ writtenPart (s .tag .exchange .held) address bytes bits)
+writes-part s sound way address bytes bits long fits inside small few =
+    let held = s .tag .exchange .held in
+    rw (session-quiet s sound way (partSlots address bytes bits)
+    (part-run (answersOf s) (numberOf s) (wayMark way) held address bytes bits long fits inside small few .1))
+    (refl, refl, refl, refl)
 
 -- ---- Copy
 
@@ -146,6 +163,17 @@ module _ (s : State) (sound : Sound s) (way : Way) (address status field : ℕ) 
   -- password: "Done exactly if"
   pub copies-unheld : Unlike (s .tag .exchange .held) address status → Undone
   copies-unheld unlike = copies-undone (copies-unlike unlike _)
+
+-- after a Write Scratchpad that ended before the page's last byte was whole, with no data too, no Copy stores anything, whatever its
+-- address, E/S and password
+pub part-uncopied : (s : State) (sound : Sound s) (way again : Way) (address : ℕ) (bytes : List ℕ) (bits : List Bool) → length (s .tag .exchange .held .pad) ≡ 32 →
+    address < 65536 → address % 32 + length bytes < 32 → ((i : ℕ) → getD bytes i 0 < 256) → length bits < 8 →
+    (to status field : ℕ) (more : List Bool) (low : to < 65536) (byte : status < 256) (whole : field < 2 ^ 64) →
+    Undone (run s (session s way (partSlots address bytes bits)) .state) (sound-run (session s way (partSlots address bytes bits)) sound) again to status field more low byte whole
+part-uncopied s sound way again address bytes bits long fits inside small few to status field more low byte whole =
+    let after = writes-part s sound way address bytes bits long fits inside small few .3 in
+    copies-unheld _ (sound-run (session s way (partSlots address bytes bits)) sound) again to status field more low byte whole
+    (rw after (part-unlike (s .tag .exchange .held) address bytes bits to status inside))
 
 -- Write Scratchpad, and after another reset Copy with E/S 1Fh and a password that may: exactly the bytes written are stored
 pub writes-and-copies : (s : State) (sound : Sound s) (way again : Way) (address field n : ℕ) (bytes : List ℕ) → length (s .tag .exchange .held .pad) ≡ 32 →

@@ -1,27 +1,32 @@
 -- The calls answer by document 01's numbers. Assumes nothing.
 use mathlib.Core.Path.{_≡_, refl, ap, _∙_}
-use mathlib.Core.Bool.{Bool, true, false, not, _&&_}
+use mathlib.Core.Bool.{Bool, true, false, not, _&&_, and-false, or-true, and-assoc}
 use mathlib.Core.List.{List}
-use Prim.Native.Nat.{ℕ, zero, suc, _+_, _*_}
+use Prim.Native.Nat.{ℕ, zero, suc, _+_, _-_, _*_, _<_}
+use native.Mathlib.Decide.{decLt}
 use native.Mathlib.Omega.{arith}
+use borrow.Author.Tests.{lt-ltb, le-leb, lt-leb}
 use lib.Dec.{eqb, ltb}
-use lib.ListN.{length}
+use lib.ListN.{length, getD}
 use Rattle.answer.specs.Answer.{answerNumber}
 use Rattle.answer.specs.declared.Answer.{Answer}
 use Rattle.answer.specs.declared.Answer.the-variants.{Accepted, ImageLength, RecordRange, EventCode, Reading, RomNumber, Configuration, DumpForm, LinePage, LineCrc, Cleared, Counts, Places}
 use Rattle.bits.specs.Bits.{bitOf}
 use Rattle.bits.specs.Choose.{if_then_else_}
-use Rattle.crc.specs.Crc.{goodCrc}
-use Rattle.dock.specs.Entries.{isFlagged, held}
+use Rattle.crc.specs.Crc.{goodCrc, sentLow, sentHigh}
+use Rattle.dock.specs.Entries as dock-entries
 use Rattle.dock.specs.Listing as dock
 use Rattle.dock.specs.Registers.{wordAt}
 use Rattle.dump.specs.Check.{formed, crcRight, checkText, checkLine, firstRefusal, checkLines, checkOf}
-use Rattle.dump.specs.Lines.{pageOf, lineAt, bytesIn, pageIn, dumpedAt}
+use Rattle.dump.specs.Lines.{pageOf, pageCrc, lineAt, bytesIn, pageIn, dataIn, crcIn, dumpedAt}
+use Rattle.hex.specs.declared.Pair.{Pair}
+use Rattle.hex.specs.Hex.{nibbleOf, pairOf, pairAt, isByte, allDigits}
+use Rattle.hex.specs.Hex.Laws.{nibble-decimal, nibble-letter, nibble-below, nibble-between, nibble-above}
 use Rattle.mission.specs.Mission.{countersInRange}
 use Rattle.tag.specs.declared.Tag.{Tag}
 use Rattle.tag.specs.Tag.{goodNumber, goodCode, tagInRange, newTag, step}
 use Rattle.tag.specs.Tag.Laws.{eventAnswer, stepAnswer, newAnswer, step-answer, new-answer}
-use Rattle.promises.specs.Refusals.{isRom, isConfiguration, newNumber, clearTag, keepsRanges, ownNumber, eventNumber, firstOf, lineNumber, linesNumber, cannotBe, contentNumber, dumpNumber}
+use Rattle.promises.specs.Refusals.{isRom, isConfiguration, newNumber, clearTag, keepsRanges, ownNumber, eventNumber, firstOf, isDigit, areDigits, isLine, hasCrc, lineNumber, linesNumber, entries, held, cannotBe, contentNumber, dumpNumber}
 
 -- the number of an answer that is chosen is chosen by the same test
 numbered : (test : Bool) (a b : Answer) {m n : ℕ} → answerNumber a ≡ m → answerNumber b ≡ n →
@@ -65,11 +70,53 @@ first-number : (a b : Answer) {m n : ℕ} → answerNumber a ≡ m → answerNum
 unfolding firstRefusal firstOf
 first-number a b p q = rw (← p) (numbered (eqb (answerNumber a) 0) b a q refl)
 
+-- a character that stands for something is a digit
+nibble-digit : (c : ℕ) → ltb (nibbleOf c) 16 ≡ isDigit c
+nibble-digit c = by (decLt c 0x30) (decLt c 0x3A) (decLt c 0x41) (decLt c 0x47)
+  where
+    by : Dec (c < 0x30) → Dec (c < 0x3A) → Dec (c < 0x41) → Dec (c < 0x47) → ltb (nibbleOf c) 16 ≡ isDigit c
+    by (yes below) ten between letter = rw (nibble-below c below) (simp (lt-leb 0x30 c below, lt-leb 0x41 c (omega arith)))
+    by (no from) (yes ten) between letter =
+        rw (nibble-decimal c (omega arith) (omega arith), lt-ltb (c - 0x30) 16 (omega arith))
+        (simp (le-leb 0x30 c (omega arith), le-leb c 0x39 (omega arith)))
+    by (no from) (no above) (yes between) letter =
+        rw (nibble-between c (omega arith) between) (simp (lt-leb c 0x39 (omega arith), lt-leb 0x41 c between, and-false))
+    by (no from) (no above) (no a) (yes letter) =
+        rw (nibble-letter c (omega arith) (omega arith), lt-ltb (c - 0x37) 16 (omega arith))
+        (simp (le-leb 0x41 c (omega arith), le-leb c 0x46 (omega arith), or-true))
+    by (no from) (no above) (no a) (no f) =
+        rw (nibble-above c (omega arith)) (simp (lt-leb c 0x39 (omega arith), lt-leb c 0x46 (omega arith), and-false))
+
+pair-digits : (high low : ℕ) → isByte (pairOf high low) ≡ isDigit high && isDigit low
+unfolding pairOf
+pair-digits high low = rw (nibble-digit high, nibble-digit low) (by (isDigit high && isDigit low) _)
+  where
+    by : (both : Bool) (byte : ℕ) → isByte (if both then Pair.Byte byte else Pair.Bad) ≡ both
+    by true byte = refl
+    by false byte = refl
+
+-- pairs of digits, one by one
+all-digits : (text : List ℕ) (at n : ℕ) → allDigits text at n ≡ areDigits text at (2 * n)
+unfolding allDigits areDigits pairAt
+all-digits text at zero = refl
+all-digits text at (suc n) =
+    let more : 2 * suc n ≡ suc (suc (2 * n)) = omega arith in
+    let one : at + 1 ≡ suc at = omega arith in
+    let two : at + 2 ≡ suc (suc at) = omega arith in
+    rw (more, pair-digits (getD text at 0) (getD text (at + 1) 0), all-digits text (at + 2) n, one, two)
+    (and-assoc (isDigit (getD text at 0)) (isDigit (getD text (suc at) 0)) (areDigits text (suc (suc at)) (2 * n)))
+
+line-formed : (text : List ℕ) → formed text ≡ isLine text
+unfolding formed
+line-formed text = rw (all-digits text 0 36)
+
 line-number : (text : List ℕ) (page : ℕ) → answerNumber (checkText text page) ≡ lineNumber text page
-unfolding checkText lineNumber
+unfolding checkText lineNumber pageIn crcRight crcIn pageCrc dataIn sentLow sentHigh
 line-number text page =
-    numbered (not (formed text)) DumpForm _ refl
-    (numbered (not (eqb (pageIn (bytesIn text)) page)) LinePage _ refl (numbered (not (crcRight (bytesIn text))) LineCrc Accepted refl refl))
+    let bytes = bytesIn text in
+    rw (line-formed text)
+    (numbered (not (isLine text)) DumpForm _ refl
+    (numbered (not (eqb (getD bytes 0 0 * 256 + getD bytes 1 0) page)) LinePage _ refl (numbered (not (hasCrc bytes)) LineCrc Accepted refl refl)))
 
 lines-number : (dump : List ℕ) (line count : ℕ) → answerNumber (checkLines dump line count) ≡ linesNumber dump line count
 unfolding checkLines checkLine linesNumber
@@ -87,14 +134,22 @@ three : (byte : ℕ → ℕ) (a : ℕ) → wordAt byte a 3 ≡ byte a + 256 * (b
 unfolding wordAt
 three byte a = omega arith
 
+entries-are : (byte : ℕ → ℕ) → dock-entries.entries byte ≡ entries byte
+unfolding dock-entries.entries dock-entries.isFlagged
+entries-are byte = rw (three byte 0x0220)
+
+held-are : (byte : ℕ → ℕ) → dock-entries.held byte ≡ held byte
+unfolding dock-entries.held dock-entries.places
+held-are byte = rw (entries-are byte)
+
 cannot-be : (byte : ℕ → ℕ) → dock.cannotBe byte ≡ cannotBe byte
-unfolding dock.cannotBe dock.isKnown dock.isOverfull dock.isUnflagged isFlagged
-cannot-be byte = rw (two byte 0x0206, three byte 0x0220)
+unfolding dock.cannotBe dock.isKnown dock.isOverfull dock.isUnflagged dock-entries.isFlagged dock-entries.places
+cannot-be byte = rw (two byte 0x0206, entries-are byte, three byte 0x0220)
 
 content-number : (byte : ℕ → ℕ) (lent : ℕ) → answerNumber (dock.judged byte lent) ≡ contentNumber byte lent
 unfolding dock.judged contentNumber
 content-number byte lent =
-    rw (cannot-be byte)
+    rw (cannot-be byte, held-are byte)
     (numbered (bitOf (byte 0x0215) 3) Cleared _ refl
     (numbered (cannotBe byte) Counts _ refl (numbered (ltb lent (held byte)) Places Accepted refl refl)))
 
