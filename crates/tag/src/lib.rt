@@ -98,12 +98,7 @@ fn accept(tag: Tag, line: bool) -> Answered
 fn afresh(tag: Tag) -> Tag
     ensures { λ r. ⌜ r ≡ tag ⌝ }
 {
-    let c = tag.counters;
-    let counters = Counters {
-        reading: c.reading,
-        minute: c.minute,
-        wait: c.wait,
-    };
+    let counters = afresh_counters(tag.counters);
     let x = tag.exchange;
     let s = x.select;
     let choosing = s.choosing;
@@ -141,6 +136,16 @@ fn afresh(tag: Tag) -> Tag
         code: tag.code,
         counters,
         exchange,
+    }
+}
+
+fn afresh_counters(c: Counters) -> Counters
+    ensures { λ r. ⌜ r ≡ c ⌝ }
+{
+    Counters {
+        reading: c.reading,
+        minute: c.minute,
+        wait: c.wait,
     }
 }
 
