@@ -7,8 +7,9 @@ use lib.ListN.{length}
 use Rattle.answer.specs.Answer.{answerNumber, refusalText}
 use Rattle.bits.specs.Bits.{digit}
 use Rattle.bits.specs.Choose.{if_then_else_}
-use Rattle.tag.specs.declared.Tag.{Tag}
-use Rattle.tag.specs.Tag.{Outcome, step}
+use Rattle.record.specs.declared.Tag.{Tag}
+use Rattle.record.specs.Record.{Outcome}
+use Rattle.tag.specs.Tag.{step}
 use Rattle.play.specs.declared.Played.{Played}
 pub mod Laws
 

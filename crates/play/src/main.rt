@@ -4,7 +4,7 @@ use image::peek;
 use image::poke;
 use libc::STDIN_FILENO;
 use libc::STDOUT_FILENO;
-use tag::Tag;
+use record::Tag;
 ghost use mathlib.Core.Path.{_≡_};
 ghost use Prim.Native.Nat.{_≤_, _+_, _*_, _%_};
 ghost use lib.ListN.{length};

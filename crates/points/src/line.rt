@@ -1,5 +1,5 @@
 // The master's side of the line, over a tag and a note whether all came as expected.
-use tag::Tag;
+use record::Tag;
 
 // The tag, and whether every answer so far was the expected one.
 pub struct Line {

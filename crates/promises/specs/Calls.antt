@@ -11,7 +11,7 @@ use denote.Ref.{now}
 use Rattle.answer.specs.Answer.{answerNumber}
 use Rattle.bits.specs.Choose.{if_then_else_}
 use Rattle.dump.specs.Dump.{dumpOf}
-use Rattle.tag.specs.declared.Answered.{Answered}
+use Rattle.record.specs.declared.Answered.{Answered}
 use Rattle.tag.proofs.event.Reads as event
 use Rattle.tag.proofs.new.Reads as new
 use Rattle.promises.specs.Demand2.{Lists}

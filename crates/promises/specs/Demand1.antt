@@ -20,9 +20,10 @@ use Rattle.dock.specs.declared.Listing.{Listing}
 use Rattle.dock.specs.Listing.{answerOf, isAccepted, refused, listingOf, temperaturesOf}
 use Rattle.dock.specs.Listing.Laws.{answer-listing, listing-refused, temperatures-refused}
 use Rattle.dock.proofs.list_dump.Reads as list-dump
-use Rattle.tag.specs.declared.Answered.{Answered}
-use Rattle.tag.specs.declared.Tag.{Tag}
-use Rattle.tag.specs.Tag.{Outcome, refusal, newImage, newTag, step}
+use Rattle.record.specs.declared.Answered.{Answered}
+use Rattle.record.specs.declared.Tag.{Tag}
+use Rattle.record.specs.Record.{Outcome, refusal}
+use Rattle.tag.specs.Tag.{newImage, newTag, step}
 use Rattle.tag.specs.Tag.Laws.{answer-taken, step-refused, new-refused, new-good, new-made}
 use Rattle.tag.proofs.event.Reads as event
 use Rattle.tag.proofs.new.Reads as new

@@ -17,8 +17,8 @@ use Rattle.image.specs.Fields.{flagAt}
 use Rattle.image.specs.Registers
 use Rattle.conversion.specs.Conversion as conversion
 use Rattle.mission.specs.Mission
-use Rattle.tag.specs.Tag.{goodCode}
-use Rattle.tag.specs.Tag.Laws.{ranges-of}
+use Rattle.record.specs.Record.{goodCode}
+use Rattle.record.specs.Record.Laws.{ranges-of}
 use Rattle.promises.specs.Demand2.Course.{reached-solid, solid-run, starts-after, listed-run}
 use Rattle.promises.specs.Demand2.Dumped.{sixBytes}
 use Rattle.promises.specs.Demand2.Events.{Starts, Spares, missionTicks}

@@ -14,6 +14,8 @@ use Rattle.memory.proofs as memory
 use Rattle.exchange.proofs as exchange
 use Rattle.conversion.proofs as conversion
 use Rattle.mission.proofs as mission
+use Rattle.record.proofs as tag-record
+use Rattle.event.proofs as event
 use Rattle.tag.proofs as tag
 use Rattle.hex.proofs as hex
 use Rattle.dump.proofs as dump
@@ -110,10 +112,20 @@ pub record Determinacy : Type 2 where
   pub mission-start : Sole mission.start.Reads.Post (λ k r e. with r (now (e .0)))
   pub mission-stop : Sole mission.stop.Reads.Post (λ k r e. now (e .0))
   pub mission-convert : Sole mission.convert.Reads.Post (λ k r e. now (e .0))
+  -- record
+  pub record-fresh : Sole tag-record.fresh.Reads.Post (λ k r e. r)
+  pub record-good-number : Sole tag-record.good_number.Reads.Post (λ k r e. r)
+  pub record-good-code : Sole tag-record.good_code.Reads.Post (λ k r e. r)
+  pub record-in-range : Sole tag-record.in_range.Reads.Post (λ k r e. r)
+  pub record-accept : Sole tag-record.accept.Reads.Post (λ k r e. r)
+  pub record-refuse : Sole tag-record.refuse.Reads.Post (λ k r e. r)
+  -- event
+  pub event-slot : Sole event.slot.Reads.Post (λ k r e. with r (now (e .0)))
+  pub event-reset : Sole event.reset.Reads.Post (λ k r e. r)
+  pub event-tick : Sole event.tick.Reads.Post (λ k r e. with r (now (e .0)))
   -- tag
   pub tag-new : Sole tag.new.Reads.Post (λ k r e. with r (now (e .0)))
   pub tag-event : Sole tag.event.Reads.Post (λ k r e. with r (now (e .0)))
-  pub tag-in-range : Sole tag.in_range.Reads.Post (λ k r e. r)
   -- hex
   pub hex-pair-at : Sole hex.pair_at.Reads.Post (λ k r e. r)
   pub hex-nibble : Sole hex.nibble.Reads.Post (λ k r e. r)
@@ -206,9 +218,17 @@ determinacy =
       mission-start = λ k a r s e f p q. pair (p .0 ∙ sym (q .0)) (p .1 ∙ sym (q .1));
       mission-stop = λ k a r s e f p q. p ∙ sym q;
       mission-convert = λ k a r s e f p q. p ∙ sym q;
+      record-fresh = λ k a r s e f p q. p ∙ sym q;
+      record-good-number = λ k a r s e f p q. p ∙ sym q;
+      record-good-code = λ k a r s e f p q. p ∙ sym q;
+      record-in-range = λ k a r s e f p q. p ∙ sym q;
+      record-accept = λ k a r s e f p q. p ∙ sym q;
+      record-refuse = λ k a r s e f p q. p ∙ sym q;
+      event-slot = λ k a r s e f p q. pair (p .0 ∙ sym (q .0)) (p .1 ∙ sym (q .1));
+      event-reset = λ k a r s e f p q. p ∙ sym q;
+      event-tick = λ k a r s e f p q. pair (p .0 ∙ sym (q .0)) (p .1 ∙ sym (q .1));
       tag-new = λ k a r s e f p q. pair (p .0 ∙ sym (q .0)) (p .1 ∙ sym (q .1));
       tag-event = λ k a r s e f p q. pair (p .0 ∙ sym (q .0)) (p .1 ∙ sym (q .1));
-      tag-in-range = λ k a r s e f p q. p ∙ sym q;
       hex-pair-at = λ k a r s e f p q. p ∙ sym q;
       hex-nibble = λ k a r s e f p q. p ∙ sym q;
       hex-put-hex = λ k a r s e f p q. p ∙ sym q;

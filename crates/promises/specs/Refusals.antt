@@ -14,7 +14,7 @@ use Rattle.dump.specs.Lines.{pageOf, lineAt, bytesIn, dumpedAt}
 use Rattle.exchange.specs.Exchange.{exchangeInRange}
 use Rattle.bus.specs.declared.Stage.{Stage}
 use Rattle.select.specs.declared.Choosing.the-variants.{Silent}
-use Rattle.tag.specs.declared.Tag.{Tag}
+use Rattle.record.specs.declared.Tag.{Tag}
 pub mod Laws
 
 -- ---- "new tag 3, 4, 5"

@@ -6,8 +6,9 @@ use mathlib.Core.Path.{_≡_}
 use Prim.Native.Nat.{ℕ}
 use Rattle.answer.specs.declared.Answer.{Answer}
 use Rattle.bits.specs.Bits.{digit}
-use Rattle.tag.specs.declared.Tag.{Tag}
-use Rattle.tag.specs.Tag.{Outcome, newTag, step}
+use Rattle.record.specs.declared.Tag.{Tag}
+use Rattle.record.specs.Record.{Outcome}
+use Rattle.tag.specs.Tag.{newTag, step}
 pub mod Laws
 
 -- the lent image, and the record "that goes in and comes back"

@@ -14,9 +14,10 @@ use Rattle.answer.specs.Answer.{answerNumber, refusalText}
 use Rattle.bits.specs.Choose.{if_then_else_, either}
 use Rattle.bits.specs.Stores.{sets-join}
 pub use Rattle.bits.specs.Stores.{sets-past}
-use Rattle.tag.specs.declared.Answered.{Answered}
-use Rattle.tag.specs.declared.Tag.{Tag}
-use Rattle.tag.specs.Tag.{Outcome, step}
+use Rattle.record.specs.declared.Answered.{Answered}
+use Rattle.record.specs.declared.Tag.{Tag}
+use Rattle.record.specs.Record.{Outcome}
+use Rattle.tag.specs.Tag.{step}
 use Rattle.play.specs.declared.Played.{Played}
 use Rattle.play.specs.Play.{Session, sessionOf, answerText, bitText, over, printing}
 

@@ -10,8 +10,9 @@ use denote.Ref.{now}
 use Rattle.answer.specs.Answer.Laws.{accepted-is}
 use Rattle.bits.specs.Choose.{if_then_else_}
 use Rattle.dump.specs.Dump.{dumpOf}
-use Rattle.tag.specs.declared.Answered.{Answered}
-use Rattle.tag.specs.Tag.{Outcome, eventOf, step}
+use Rattle.record.specs.declared.Answered.{Answered}
+use Rattle.record.specs.Record.{Outcome}
+use Rattle.tag.specs.Tag.{eventOf, step}
 use Rattle.tag.specs.Tag.Laws.{step-taken, event-tick, event-reading, event-other}
 use Rattle.promises.specs.Calls.{Made, Called, Meaning, meaningOf, Chain, Calls}
 use Rattle.promises.specs.Demand2.{Lists, demand2}

@@ -35,7 +35,8 @@ use Rattle.mission.specs.Mission.Times.{on-time-started}
 use Rattle.conversion.specs.Conversion.Whole.{Whole}
 use Rattle.mission.specs.Mission.Whole.{whole-ticked, whole-cleared, whole-started, whole-stopped, whole-forced}
 use Rattle.mission.specs.declared.Counters.{Counters}
-use Rattle.tag.specs.Tag.{performed, performedCounters, newImage, slotted, resetTag, tickTag}
+use Rattle.event.specs.Event.{performed, performedCounters, slotted, resetTag, tickTag}
+use Rattle.tag.specs.Tag.{newImage}
 use Rattle.tag.specs.Tag.Laws.{new-good, new-made, length-new}
 use Rattle.promises.specs.Demand2.Deeds.{whole-stored, holds-performed, Stopped, stopped-stop, stopped-ticked, stopped-performed}
 use Rattle.promises.specs.Demand2.Events.{slotAt, deedAt, MayStart, Starts, Spares, isStop, missionTicks}

@@ -23,7 +23,7 @@ use Rattle.mission.specs.Mission.Times.{on-time-left}
 use Rattle.conversion.specs.Conversion.Whole.{Whole, whole-clocked}
 use Rattle.mission.specs.Mission.Whole.{whole-stopped, whole-forced}
 use Rattle.mission.specs.declared.Counters.{Counters}
-use Rattle.tag.specs.Tag.{performed, performedCounters}
+use Rattle.event.specs.Event.{performed, performedCounters}
 use Rattle.promises.specs.Demand2.Events.{isStop}
 use Rattle.promises.specs.Demand2.Holds.{Listed, Holds, listed-left}
 use Rattle.promises.specs.History.{Conversion}

@@ -9,7 +9,7 @@ use Rattle.bits.specs.Choose.{if_then_else_}
 use Rattle.exchange.specs.declared.Slotted.{Slotted}
 use Rattle.exchange.specs.Exchange as exchange
 use Rattle.bus.specs.declared.Deed.{Deed}
-use Rattle.tag.specs.Tag.{answerTo}
+use Rattle.event.specs.Event.{answerTo}
 use Rattle.promises.specs.Demand2.AtStart.{bitAt, rateAt}
 use Rattle.promises.specs.Runs.{State, Event, after}
 

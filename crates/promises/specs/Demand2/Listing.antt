@@ -24,7 +24,7 @@ use Rattle.image.specs.Sent.Laws.{sent-code}
 use Rattle.conversion.specs.Conversion as conversion
 use Rattle.mission.specs.Mission
 use Rattle.conversion.specs.Conversion.Settings.{places-same}
-use Rattle.tag.specs.Tag.{goodCode}
+use Rattle.record.specs.Record.{goodCode}
 use Rattle.promises.specs.Demand2.Dumped.{sixBytes, ehss-sent, etl-sent, ro-sent, suta-sent, tlf-sent, thf-sent, memclr-sent, places-sent, reading-sent, samples-sent, stamp-sent, rate-sent, dump-agrees}
 use Rattle.promises.specs.Demand2.Holds.{none, Listed}
 use Rattle.promises.specs.Demand2.AtStart.{settingsOf, rate-of, most-of, places-pos}

@@ -22,8 +22,8 @@ use Rattle.mission.specs.Mission.Frames.{leaves-ticked, leaves-forced, mip-tick
 use Rattle.mission.specs.declared.Counters.{Counters}
 use Rattle.mission.specs.Mission.{forced, ticked, tickedCounters}
 use Rattle.mission.specs.Mission.Commands.{forced-mission}
-use Rattle.tag.specs.Tag.{answerTo, slotted, resetTag, tickTag}
-use Rattle.tag.specs.Tag.Laws.{ranges-of}
+use Rattle.event.specs.Event.{answerTo, slotted, resetTag, tickTag}
+use Rattle.record.specs.Record.Laws.{ranges-of}
 use Rattle.promises.specs.Demand3.{EndsField, Forces, Converted, Unconverted, LeftToTicks, NoPassword}
 use Rattle.promises.specs.Demand3.Image.{counters-idle, Spoilt, spoilt-idle, spoilt-forced, spoilt-ticked}
 use Rattle.promises.specs.Demand3.Slot.{unlet-write, convert-forces, unguarded-performed, unguarded-counters}

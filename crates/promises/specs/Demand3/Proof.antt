@@ -8,7 +8,8 @@ use Rattle.exchange.specs.declared.Slotted.{Slotted}
 use Rattle.exchange.specs.Exchange as exchange
 use Rattle.exchange.specs.Exchange.Laws as exchange-laws
 use Rattle.memory.specs.Phases.{opened, lets}
-use Rattle.tag.specs.Tag.{Outcome, answerTo, slotted, resetTag, tickTag}
+use Rattle.event.specs.Event.{answerTo, slotted, resetTag, tickTag}
+use Rattle.record.specs.Record.{Outcome}
 use Rattle.promises.specs.Alarms.{alarmFlag, alarmed-flag}
 use Rattle.promises.specs.Demand3.{Conditional, Alike, NoPassword, AlarmsAgree, Demand3}
 use Rattle.promises.specs.Demand3.Reset.{reset-again, reset-opened, begins-guarded}

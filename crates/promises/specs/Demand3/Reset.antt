@@ -9,7 +9,7 @@ use Rattle.image.specs.Answers.Laws.{keys-same}
 use Rattle.image.specs.Registers.{passwordControl}
 use Rattle.memory.specs.Phases.{opened}
 use Rattle.memory.specs.Phases.Laws.{shut-writing}
-use Rattle.tag.specs.Tag.{resetTag}
+use Rattle.event.specs.Event.{resetTag}
 use Rattle.promises.specs.Demand3.{JustReset, Alike, Begins}
 use Rattle.promises.specs.Demand3.Left.{Guards}
 use Rattle.promises.specs.Runs.{State, Event, after, Reached, Together}

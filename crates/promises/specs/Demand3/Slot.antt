@@ -32,7 +32,7 @@ use Rattle.memory.specs.Send.{sendAsks}
 use Rattle.mission.specs.declared.Counters.{Counters}
 use Rattle.mission.specs.Mission as mission
 use Rattle.select.specs.Select as select
-use Rattle.tag.specs.Tag.{answerTo, performed, performedCounters}
+use Rattle.event.specs.Event.{answerTo, performed, performedCounters}
 use Rattle.promises.specs.Demand3.{EndsField, Conditional, Forces}
 
 -- ---- how many bits are past

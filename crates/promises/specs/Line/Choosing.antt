@@ -22,7 +22,7 @@ use Rattle.select.specs.Runs as select
 use Rattle.select.specs.Runs.{searchWith, searchAnswers}
 use Rattle.select.specs.Runs.Laws.{run-silent, run-search, run-resume}
 use Rattle.select.specs.Runs.Through.{Lasts, choosing-while, choosing-through}
-use Rattle.tag.specs.Tag.{answerTo, resetTag}
+use Rattle.event.specs.Event.{answerTo, resetTag}
 use Rattle.promises.specs.Alarms.{alarmFlag, alarmed-flag}
 use Rattle.promises.specs.Line.Dropped.{Dropped, byte-dropped, unknown-byte, match-dropped, length-search, search-dropped}
 use Rattle.promises.specs.Line.Slots.{numberOf, answersOf, afterReset, withExchange, line-event, slots-quiet, run-slots, run-reset, Kept}

@@ -30,8 +30,8 @@ use Rattle.mission.specs.Mission.Frames.{leaves-cleared, leaves-started, leaves
 use Rattle.mission.specs.Mission.Ranges.{range-facts}
 use Rattle.conversion.specs.Conversion.Whole.{Whole}
 use Rattle.mission.specs.declared.Counters.{Counters}
-use Rattle.tag.specs.Tag.{answerTo, performed, performedCounters}
-use Rattle.tag.specs.Tag.Laws.{ranges-of}
+use Rattle.event.specs.Event.{answerTo, performed, performedCounters}
+use Rattle.record.specs.Record.Laws.{ranges-of}
 use Rattle.promises.specs.Demand2.AtStart.{rate-of}
 use Rattle.promises.specs.Demand2.Course.{reached-solid, four-facts}
 use Rattle.promises.specs.Demand2.Events.{MayStart}

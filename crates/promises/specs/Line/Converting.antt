@@ -29,7 +29,8 @@ use Rattle.conversion.specs.Conversion.Reads.{byteLogged}
 use Rattle.mission.specs.Mission.Frames.{leaves-missionTicked}
 use Rattle.mission.specs.Mission.Ticks.{clock-clocked, ticked-idle, ticked-due, converts-ticked}
 use Rattle.mission.specs.declared.Counters.{Counters}
-use Rattle.tag.specs.Tag.{newTag, performedCounters, slotted, resetTag, tickTag}
+use Rattle.event.specs.Event.{performedCounters, slotted, resetTag, tickTag}
+use Rattle.tag.specs.Tag.{newTag}
 use Rattle.tag.specs.Tag.Laws.{new-good, new-made}
 use Rattle.promises.specs.Demand2.AtStart.{settingsOf}
 use Rattle.promises.specs.Demand2.Course.{Solid, reached-solid, starts-after, tick-leaves}

@@ -16,7 +16,7 @@ use Rattle.bus.specs.declared.Stage.{Stage}
 use Rattle.bus.specs.Bus.{goTo}
 use Rattle.field.specs.Field.{guarded}
 use Rattle.memory.specs.Hear.{deedOf}
-use Rattle.tag.specs.Tag.{answerTo}
+use Rattle.event.specs.Event.{answerTo}
 use Rattle.promises.specs.Runs.{State, run}
 use Rattle.promises.specs.Runs.Laws.{Sound}
 use Rattle.promises.specs.Line.Slots.{numberOf, session, greeting, session-then, slots-lastly, answersOf, withExchange, afterDeed}

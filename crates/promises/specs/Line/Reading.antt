@@ -18,7 +18,7 @@ use Rattle.hex.specs.Hex.{hexText}
 use Rattle.image.specs.Answers.{mayRead}
 use Rattle.image.specs.Sent.{sentAt}
 use Rattle.bus.specs.declared.Question.{Question}
-use Rattle.tag.specs.Tag.{answerTo}
+use Rattle.event.specs.Event.{answerTo}
 use Rattle.promises.specs.Runs.{State, Event, run}
 use Rattle.promises.specs.Runs.Laws.{Sound}
 use Rattle.promises.specs.Line.Slots.{numberOf, session, greeting, session-way, session-quiet, answersOf, Kept, kept-by}

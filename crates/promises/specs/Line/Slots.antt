@@ -14,7 +14,8 @@ use Rattle.exchange.specs.Runs.Choosing.{run-way}
 use Rattle.bus.specs.declared.Bus.{Bus}
 use Rattle.bus.specs.declared.Deed.{Deed}
 use Rattle.bus.specs.declared.Question.{Question}
-use Rattle.tag.specs.Tag.{Outcome, answerTo, performed, performedCounters, slotted, resetTag}
+use Rattle.event.specs.Event.{answerTo, performed, performedCounters, slotted, resetTag}
+use Rattle.record.specs.Record.{Outcome}
 use Rattle.promises.specs.Runs.{State, Event, leaves, happens, after, lineBit, Ran, run}
 use Rattle.promises.specs.Runs.Laws.{Sound, sound-after, slot-happens, reset-happens}
 

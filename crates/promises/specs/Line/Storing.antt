@@ -30,7 +30,7 @@ use Rattle.bus.specs.declared.Stage.{Stage}
 use Rattle.bus.specs.Bus.{clearBus, goTo, statusByte}
 use Rattle.field.specs.Field.{copies, withAA}
 use Rattle.memory.specs.Runs.Scratchpad.{overAt, padBytes, read-scratchpad, writeHead, writtenTo, write-scratchpad, rest-of-page}
-use Rattle.tag.specs.Tag.{answerTo, performed, performedCounters}
+use Rattle.event.specs.Event.{answerTo, performed, performedCounters}
 use Rattle.promises.specs.Runs.{State, run, Reached}
 use Rattle.promises.specs.Runs.Laws.{Sound, sound-run, reached-sound}
 use Rattle.promises.specs.Line.Slots.{numberOf, session, greeting, session-quiet, session-then, slots-quiet, slots-lastly, slots-then, answersOf, withExchange, afterDeed, Kept, kept-by}

@@ -23,8 +23,9 @@ use Rattle.hex.specs.declared.Pair.{Pair}
 use Rattle.hex.specs.Hex.{nibbleOf, pairOf, pairAt, isByte, allDigits}
 use Rattle.hex.specs.Hex.Laws.{nibble-decimal, nibble-letter, nibble-below, nibble-between, nibble-above}
 use Rattle.mission.specs.Mission.{countersInRange}
-use Rattle.tag.specs.declared.Tag.{Tag}
-use Rattle.tag.specs.Tag.{goodNumber, goodCode, tagInRange, newTag, step}
+use Rattle.record.specs.declared.Tag.{Tag}
+use Rattle.record.specs.Record.{goodNumber, goodCode, tagInRange}
+use Rattle.tag.specs.Tag.{newTag, step}
 use Rattle.tag.specs.Tag.Laws.{eventAnswer, stepAnswer, newAnswer, step-answer, new-answer}
 use Rattle.promises.specs.Refusals.{isRom, isConfiguration, newNumber, clearTag, keepsRanges, ownNumber, eventNumber, firstOf, isDigit, areDigits, isLine, hasCrc, lineNumber, linesNumber, entries, held, cannotBe, contentNumber, dumpNumber}
 

@@ -12,8 +12,11 @@ use lib.ListN.{length}
 use Rattle.answer.specs.declared.Answer.{Answer}
 use Rattle.bits.specs.Bits.{digit}
 use Rattle.exchange.specs.Exchange.Laws.{number-kept}
-use Rattle.tag.specs.Tag.{tagInRange, refusal, newTag, slotted, resetTag, tickTag, eventOf}
-use Rattle.tag.specs.Tag.Laws.{new-good, new-made, length-new, new-in-range, length-step, step-in-range, step-taken}
+use Rattle.record.specs.Record.{tagInRange, refusal}
+use Rattle.event.specs.Event.{slotted, resetTag, tickTag}
+use Rattle.tag.specs.Tag.{newTag, eventOf}
+use Rattle.record.specs.Record.Laws.{new-in-range}
+use Rattle.tag.specs.Tag.Laws.{new-good, new-made, length-new, length-step, step-in-range, step-taken}
 use Rattle.promises.specs.Runs.{State, Event, codeOf, readingOf, leaves, happens, after, lineBit, Accepts, Ran, run, Reached, Always, Together, OnSlots}
 
 -- ---- an invariant of one event is one of every run

@@ -4,8 +4,10 @@ use mathlib.Core.List.{List}
 use Prim.Native.Nat.{ℕ}
 use borrow.Author.Needs.{needs}
 use borrow.Author.Tests.{eq-eqb, ne-eqb}
-use Rattle.tag.specs.declared.Answered.{Answered}
-use Rattle.tag.specs.Tag.{Outcome, resetTag, eventOf, step}
+use Rattle.record.specs.declared.Answered.{Answered}
+use Rattle.event.specs.Event.{resetTag}
+use Rattle.record.specs.Record.{Outcome}
+use Rattle.tag.specs.Tag.{eventOf, step}
 use Rattle.tag.specs.Tag.Laws.{event-slot, event-reset, event-tick, event-reading, event-other}
 use Rattle.tag.proofs.event.Statement.{statement}
 use Rattle.tag.proofs.event.Tie as tie

@@ -1,7 +1,7 @@
 -- What every call of the tag answers and leaves: the image's length, the record's ranges, and after a refusal all that it was
 -- given. Assumes nothing.
 use mathlib.Core.Path.{_≡_, refl, ap, _∙_}
-use mathlib.Core.Bool.{Bool, true, false, not, _&&_, and-eq-true-iff}
+use mathlib.Core.Bool.{Bool, true, false, not, _&&_}
 use mathlib.Core.List.{List}
 use mathlib.Core.Logic.{_≢_}
 use Prim.Native.Nat.{ℕ, zero, suc, _≤_, _<_}
@@ -12,18 +12,11 @@ use lib.ListN.{length, replicate, length-set, length-replicate}
 use Rattle.answer.specs.Answer.{answerNumber}
 use Rattle.answer.specs.declared.Answer.{Answer}
 use Rattle.bits.specs.Choose.{if_then_else_}
-use Rattle.exchange.specs.declared.Exchange.{Exchange}
-use Rattle.exchange.specs.Exchange as exchange
-use Rattle.exchange.specs.Exchange.Laws as exchange-laws
-use Rattle.image.specs.Stored.{storedPage}
-use Rattle.image.specs.Stored.Laws.{length-storedRun}
-use Rattle.bus.specs.declared.Deed.{Deed}
-use Rattle.mission.specs.declared.Counters.{Counters}
-use Rattle.mission.specs.Mission as mission
-use Rattle.mission.specs.Mission.Frames.{leaves-cleared, leaves-started, leaves-stopped, leaves-forced, leaves-ticked}
-use Rattle.mission.specs.Mission.Ranges.{range-ticked, range-started}
-use Rattle.tag.specs.declared.Tag.{Tag}
-use Rattle.tag.specs.Tag.{Outcome, goodNumber, goodCode, tagInRange, freshTag, accepted, refusal, newImage, newTag, answerTo, performed, performedCounters, slotted, resetTag, tickTag, eventOf, step}
+use Rattle.event.specs.Event.{slotted, resetTag, tickTag}
+use Rattle.event.specs.Event.Laws.{length-slotted, length-tick, slotted-in-range, reset-in-range, tick-in-range}
+use Rattle.record.specs.declared.Tag.{Tag}
+use Rattle.record.specs.Record.{Outcome, goodNumber, goodCode, tagInRange, freshTag, accepted, refusal}
+use Rattle.tag.specs.Tag.{newImage, newTag, eventOf, step}
 
 -- ---- which answer
 
@@ -159,99 +152,26 @@ step-refused image tag code reading =
 
 -- ---- the image's length
 
-length-performed : (deed : Deed) (x : Exchange) (c : Counters) (image : List ℕ) → length (performed deed x c image) ≡ length image
-unfolding performed storedPage
-length-performed Deed.Nothing x c image = refl
-length-performed Deed.Store x c image = length-storedRun image _ _
-length-performed Deed.Clear x c image = leaves-cleared image .keeps .lengths
-length-performed Deed.Start x c image = leaves-started image .keeps .lengths
-length-performed Deed.Stop x c image = leaves-stopped image .keeps .lengths
-length-performed Deed.Convert x c image = leaves-forced image c .keeps .lengths
-
 pub length-step : (image : List ℕ) (tag : Tag) (code reading : ℕ) → length (step image tag code reading .image) ≡ length image
-unfolding slotted resetTag tickTag
+unfolding resetTag
 length-step image tag code reading =
     step-cases (λ o a. length (o .image) ≡ length image) image tag code reading
-    (λ bit. length-performed _ _ (tag .counters) image)
+    (length-slotted image tag)
     refl
-    (λ small. leaves-ticked image (tag .counters) reading .keeps .lengths)
+    (λ small. length-tick image tag reading)
     (λ answer refused. refl)
 
 -- ---- the record's ranges
 
--- the ranges one by one
-pub record Ranges (tag : Tag) : Type 0 where
-  pub number : goodNumber (tag .exchange .number) ≡ true
-  pub code : goodCode (tag .code) ≡ true
-  pub counters : mission.countersInRange (tag .counters) ≡ true
-  pub line : exchange.exchangeInRange (tag .exchange) ≡ true
-
-pub ranges-of : (tag : Tag) → tagInRange tag ≡ true → Ranges tag
-unfolding tagInRange
-ranges-of tag e =
-    let good = goodNumber (tag .exchange .number) in
-    let known = goodCode (tag .code) in
-    let counted = mission.countersInRange (tag .counters) in
-    let three = and-eq-true-iff (good && known && counted) (exchange.exchangeInRange (tag .exchange)) .0 e in
-    let two = and-eq-true-iff (good && known) counted .0 (three .0) in
-    let one = and-eq-true-iff good known .0 (two .0) in
-    record { number = one .0; code = one .1; counters = two .1; line = three .1 }
-
-pub in-ranges : (tag : Tag) → Ranges tag → tagInRange tag ≡ true
-unfolding tagInRange
-in-ranges tag r = rw (r .number, r .code, r .counters, r .line)
-
-performed-in-range : (deed : Deed) (c : Counters) (image : List ℕ) → mission.countersInRange c ≡ true →
-    mission.countersInRange (performedCounters deed c image) ≡ true
-unfolding performedCounters
-performed-in-range Deed.Nothing c image r = r
-performed-in-range Deed.Store c image r = r
-performed-in-range Deed.Clear c image r = r
-performed-in-range Deed.Start c image r = range-started image c r
-performed-in-range Deed.Stop c image r = r
-performed-in-range Deed.Convert c image r = r
-
 -- "none reached from a new tag by events" breaks them
 pub step-in-range : (image : List ℕ) (tag : Tag) (code reading : ℕ) → tagInRange tag ≡ true →
     tagInRange (step image tag code reading .answered .tag) ≡ true
-unfolding slotted resetTag tickTag
 step-in-range image tag code reading h =
-    step-cases (λ o a. tagInRange (o .answered .tag) ≡ true) image tag code reading slots reset tick (λ answer refused. h)
-  where
-    r : Ranges tag
-    r = ranges-of tag h
-
-    slots : (bit : Bool) → tagInRange (slotted image tag bit .answered .tag) ≡ true
-    slots bit =
-        let answer = answerTo image (tag .code) (exchange.asks (tag .exchange) bit) in
-        let s = exchange.slotOf (tag .exchange) bit answer in
-        in-ranges _
-        (record {
-          number = rw (exchange-laws.number-kept (tag .exchange) bit answer) (r .number);
-          code = r .code;
-          counters = performed-in-range (s .deed) (tag .counters) image (r .counters);
-          line = exchange-laws.slot-in-range (tag .exchange) bit answer (r .line);
-        })
-
-    reset : tagInRange (resetTag image tag .answered .tag) ≡ true
-    reset =
-        in-ranges _
-        (record {
-          number = r .number;
-          code = r .code;
-          counters = r .counters;
-          line = exchange-laws.reset-in-range (tag .exchange) (r .line);
-        })
-
-    tick : reading ≤ 2047 → tagInRange (tickTag image tag reading .answered .tag) ≡ true
-    tick small =
-        in-ranges _
-        (record {
-          number = r .number;
-          code = r .code;
-          counters = range-ticked image (tag .counters) reading (r .counters) small;
-          line = r .line;
-        })
+    step-cases (λ o a. tagInRange (o .answered .tag) ≡ true) image tag code reading
+    (λ bit. slotted-in-range image tag bit h)
+    (reset-in-range image tag h)
+    (λ small. tick-in-range image tag reading small h)
+    (λ answer refused. h)
 
 -- ---- a new tag
 
@@ -296,11 +216,6 @@ new-refused image number code =
     new-cases (λ o a. o .answered .answer ≢ Answer.Accepted → o ≡ refusal (o .answered .answer) (freshTag 0 0) image) image number code
     (λ answer is-one refused. refl) (λ whole good known refused. absurd (refused refl))
 
--- "which every event refuses with 6"
-pub zeros-break : tagInRange (freshTag 0 0) ≡ false
-unfolding tagInRange goodNumber
-zeros-break = refl
-
 -- one that is accepted had good image, number and code ..
 pub new-good : (image : List ℕ) (number code : ℕ) → newTag image number code .answered .answer ≡ Answer.Accepted →
     (length image ≡ 8832) × (goodNumber number ≡ true) × (goodCode code ≡ true)
@@ -320,8 +235,3 @@ new-made image number code whole good known = rw (eq-eqb (length image) 8832 who
 pub length-new : (n : ℕ) → length (newImage n) ≡ n
 unfolding newImage
 length-new n = length-set (replicate n 0) 0x0214 0x80 ∙ length-replicate n 0
-
-pub new-in-range : (number code : ℕ) → goodNumber number ≡ true → goodCode code ≡ true → tagInRange (freshTag number code) ≡ true
-unfolding mission.countersInRange
-new-in-range number code good known =
-    in-ranges _ (record { number = good; code = known; counters = refl; line = exchange-laws.new-in-range number })

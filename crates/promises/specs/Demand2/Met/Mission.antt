@@ -14,7 +14,8 @@ use Rattle.exchange.specs.Runs.{Way, waySlots}
 use Rattle.bus.specs.declared.Control.{Control}
 use Rattle.bus.specs.declared.Deed.{Deed}
 use Rattle.conversion.specs.Conversion.Whole.{Whole}
-use Rattle.tag.specs.Tag.{Outcome, goodCode, newTag}
+use Rattle.record.specs.Record.{goodCode, Outcome}
+use Rattle.tag.specs.Tag.{newTag}
 use Rattle.tag.specs.Tag.Laws.{new-made, length-new}
 use Rattle.promises.specs.Demand2.{Lists, heldOf, demand2}
 use Rattle.promises.specs.Demand2.AtStart.{settingsOf}

@@ -15,7 +15,7 @@ use Rattle.bus.specs.declared.Question.{Question}
 use Rattle.bus.specs.declared.Stage.{Stage}
 use Rattle.bus.specs.Bus.{goTo}
 use Rattle.field.specs.Field.{guarded}
-use Rattle.tag.specs.Tag.{answerTo, slotted, performed, performedCounters}
+use Rattle.event.specs.Event.{answerTo, slotted, performed, performedCounters}
 use Rattle.promises.specs.Demand2.Events.{slotAt, deedAt}
 use Rattle.promises.specs.Demand2.Met.{startSlots, StartMet}
 use Rattle.promises.specs.Line.Passwords.{PassesFull, full-may}

@@ -16,7 +16,7 @@ use Rattle.bus.specs.declared.Question.{Question}
 use Rattle.select.specs.declared.Select.{Select}
 use Rattle.select.specs.Runs as runs
 use Rattle.select.specs.Select.{slotOf, isSelected}
-use Rattle.tag.specs.Tag.{answerTo}
+use Rattle.event.specs.Event.{answerTo}
 use Rattle.promises.specs.Alarms.{alarmFlag}
 use Rattle.promises.specs.Demand3.{NoPassword, EndsField, AlarmsAgree}
 use Rattle.promises.specs.Line.Slots.{withExchange, answersOf, run-slots, slots-quiet}

@@ -14,7 +14,7 @@ use Rattle.exchange.specs.Runs.{Way, waySlots, wayLine, wayMark}
 use Rattle.image.specs.Answers.{mayRead}
 use Rattle.image.specs.Sent.{sentAt}
 use Rattle.select.specs.Select.{isChosen, isSelected}
-use Rattle.tag.specs.Tag.{slotted}
+use Rattle.event.specs.Event.{slotted}
 use Rattle.promises.specs.Demand3.Needed.Owner.{skipping}
 use Rattle.promises.specs.Demand3.Needed.Walk.{Unconditional, conditional-unchosen}
 use Rattle.promises.specs.Line.Reading.{reads-memory, reads-nothing}

@@ -25,7 +25,7 @@ use Rattle.field.specs.Field.{guarded}
 use Rattle.mission.specs.Mission.{cleared, started, startedCounters}
 use Rattle.select.specs.declared.Choosing.the-variants.{Command}
 use Rattle.select.specs.Select.{keeps}
-use Rattle.tag.specs.Tag.{performed, performedCounters, resetTag}
+use Rattle.event.specs.Event.{performed, performedCounters, resetTag}
 use Rattle.promises.specs.Demand3.{JustReset}
 use Rattle.promises.specs.Line.ControlRun.{controlSlots, controlBus}
 use Rattle.promises.specs.Line.Deeds.{controls}

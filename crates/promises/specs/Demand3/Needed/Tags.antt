@@ -26,7 +26,8 @@ use Rattle.mission.specs.Mission.{cleared}
 use Rattle.mission.specs.Mission.Commands as commands
 use Rattle.mission.specs.Mission.Frames.{leaves-cleared, mip-cleared}
 use Rattle.conversion.specs.Conversion.Whole.{Whole}
-use Rattle.tag.specs.Tag.{Outcome, goodNumber, goodCode, newImage, newTag}
+use Rattle.record.specs.Record.{goodNumber, goodCode, Outcome}
+use Rattle.tag.specs.Tag.{newImage, newTag}
 use Rattle.tag.specs.Tag.Laws.{new-made, length-new}
 use Rattle.promises.specs.Demand2.Course.{reached-solid}
 use Rattle.promises.specs.Demand3.{JustReset}

@@ -20,7 +20,7 @@ use Rattle.mission.specs.Mission.Frames.{mip-ticked, mip-forced}
 use Rattle.select.specs.declared.Choosing.{Choosing}
 use Rattle.select.specs.declared.Choosing.the-variants.{Silent, Command, Reading, Matching, Giving, Complementing, Awaiting, Selected}
 use Rattle.select.specs.Select.{isChosen, isSelected, endsCommand}
-use Rattle.tag.specs.Tag.{answerTo, slotted, resetTag, tickTag}
+use Rattle.event.specs.Event.{answerTo, slotted, resetTag, tickTag}
 use Rattle.promises.specs.Demand3.{EndsField, Conditional, Alike, NoPassword, AlarmsAgree, Begins, Premises}
 use Rattle.promises.specs.Demand3.Left.{Guards, guards-checked, flag-stays, tick-cases, no-full}
 use Rattle.promises.specs.Demand3.Reset.{begins-guarded}

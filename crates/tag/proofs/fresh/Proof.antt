@@ -1,7 +1,0 @@
--- `tag::fresh` meets its contract. Assumes nothing.
-use borrow.Author.Needs.{needs}
-use Rattle.tag.proofs.fresh.Statement.{statement}
-use Rattle.tag.proofs.fresh.Tie as tie
-
-pub fresh-spec : {M : Type 1} → statement M
-fresh-spec = tie.close (tie.spec (search needs) (λ c. simp (c .new .ensures)))

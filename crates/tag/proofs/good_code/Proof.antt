@@ -1,9 +1,0 @@
--- `tag::good_code` meets its contract. Assumes nothing.
-use borrow.Author.Tests.{eq-eqb, ne-eqb}
-use Rattle.tag.specs.Tag.{goodCode}
-use Rattle.tag.proofs.good_code.Statement.{statement}
-use Rattle.tag.proofs.good_code.Tie as tie
-
-pub good-code-spec : {M : Type 1} → statement M
-unfolding goodCode
-good-code-spec = tie.close (tie.spec (λ c. simp (eq-eqb _ _ (c .if1 .taken))) (λ c. simp (ne-eqb _ _ (c .if1 .left))))

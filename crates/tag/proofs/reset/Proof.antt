@@ -1,9 +1,0 @@
--- `tag::reset` meets its contract. Assumes nothing.
-use borrow.Author.Needs.{needs}
-use Rattle.tag.specs.Tag.{resetTag}
-use Rattle.tag.proofs.reset.Statement.{statement}
-use Rattle.tag.proofs.reset.Tie as tie
-
-pub reset-spec : {M : Type 1} → statement M
-unfolding resetTag
-reset-spec = tie.close (tie.spec (search needs) (search needs) (λ c. simp (c .accept .ensures, c .before .reset .ensures)))
