@@ -1,4 +1,7 @@
 // The master's side of the line, over a tag and a note whether all came as expected.
+use crate::kept;
+use crate::session::Act;
+use libc::STDOUT_FILENO;
 use record::Tag;
 
 // The tag, and whether every answer so far was the expected one.
@@ -18,8 +21,43 @@ pub(crate) fn begin(image: &mut [u8]) -> Line {
     }
 }
 
+// Does what the session asks for.
+pub(crate) fn perform(image: &mut [u8], store: &mut [u8], line: Line, act: Act) -> Line {
+    match act {
+        Act::Nothing => line,
+        Act::Print(c) => {
+            io::write_all(STDOUT_FILENO, &[c]);
+            line
+        }
+        Act::Begin(any, whole) => {
+            if any {
+                verdict(line.right && whole);
+            }
+            begin(image)
+        }
+        Act::Bytes(value, is_read, count) => bytes(image, line, value, is_read, count),
+        Act::Slot(code, bit) => slot(image, line, code, bit),
+        Act::Event(code, reading, number) => event(image, line, code, reading, number),
+        Act::Ticks(reading, count) => ticks(image, line, reading, count),
+        Act::Remember => {
+            kept::remember(image, store);
+            line
+        }
+        Act::Kept => note(line, kept::is_kept(image, store)),
+        Act::Wrong => note(line, false),
+    }
+}
+
+pub(crate) fn verdict(right: bool) {
+    if right {
+        io::write_all(STDOUT_FILENO, b": ok\n");
+    } else {
+        io::write_all(STDOUT_FILENO, b": WRONG\n");
+    }
+}
+
 // One more thing that must be so.
-pub(crate) fn note(line: Line, right: bool) -> Line {
+fn note(line: Line, right: bool) -> Line {
     let tag = line.tag;
     Line {
         tag,
@@ -28,7 +66,7 @@ pub(crate) fn note(line: Line, right: bool) -> Line {
 }
 
 // One event, whose answer must have this number.
-pub(crate) fn event(image: &mut [u8], line: Line, code: u8, reading: u16, number: u8) -> Line {
+fn event(image: &mut [u8], line: Line, code: u8, reading: u16, number: u8) -> Line {
     let before = line.tag;
     let answered = tag::event(image, before, code, reading);
     let tag = answered.tag;
@@ -40,7 +78,7 @@ pub(crate) fn event(image: &mut [u8], line: Line, code: u8, reading: u16, number
 }
 
 // A slot or a reset, which must leave this bit on the line.
-pub(crate) fn slot(image: &mut [u8], line: Line, code: u8, bit: bool) -> Line {
+fn slot(image: &mut [u8], line: Line, code: u8, bit: bool) -> Line {
     let before = line.tag;
     let answered = tag::event(image, before, code, 0);
     let tag = answered.tag;
@@ -51,7 +89,7 @@ pub(crate) fn slot(image: &mut [u8], line: Line, code: u8, bit: bool) -> Line {
 }
 
 // A byte, low bit first: read and expected, or sent to a tag that listens.
-pub(crate) fn byte(image: &mut [u8], line: Line, byte: u8, is_read: bool) -> Line {
+fn byte(image: &mut [u8], line: Line, byte: u8, is_read: bool) -> Line {
     let mut now = line;
     for i in 0..8 {
         let bit = bits::bit(byte as u64, i);
@@ -66,7 +104,7 @@ fn master(bit: bool, is_read: bool) -> u8 {
 }
 
 // The same byte, `count` times.
-pub(crate) fn bytes(image: &mut [u8], line: Line, value: u8, is_read: bool, count: u8) -> Line {
+fn bytes(image: &mut [u8], line: Line, value: u8, is_read: bool, count: u8) -> Line {
     let mut now = line;
     for _ in 0..count {
         now = byte(image, now, value, is_read);
@@ -75,7 +113,7 @@ pub(crate) fn bytes(image: &mut [u8], line: Line, value: u8, is_read: bool, coun
 }
 
 // `count` ticks with the same reading.
-pub(crate) fn ticks(image: &mut [u8], line: Line, reading: u16, count: u16) -> Line {
+fn ticks(image: &mut [u8], line: Line, reading: u16, count: u16) -> Line {
     let mut now = line;
     for _ in 0..count {
         now = event(image, now, 3, reading, 0);

@@ -2,25 +2,10 @@
 // For each, a line says whether all of it came as expected. The published CRC examples come first.
 use libc::STDIN_FILENO;
 use libc::STDOUT_FILENO;
-use session::Session;
 
 mod kept;
 mod line;
 mod session;
-
-// What is read: a session; a point's name, which ':' begins; a comment, which '#' begins.
-const SESSION: u8 = 0;
-
-const NAME: u8 = 1;
-
-const COMMENT: u8 = 2;
-
-struct Points {
-    session: Session,
-    reads: u8,
-    // Whether a point has begun.
-    any: bool,
-}
 
 fn main() {
     let mut image = [0u8; 8832];
@@ -51,84 +36,20 @@ fn crc_points() {
 
 fn point(name: &[u8], right: bool) {
     io::write_all(STDOUT_FILENO, name);
-    verdict(right);
+    line::verdict(right);
 }
 
-fn verdict(right: bool) {
-    if right {
-        io::write_all(STDOUT_FILENO, b": ok\n");
-    } else {
-        io::write_all(STDOUT_FILENO, b": WRONG\n");
-    }
-}
-
+// Plays the sessions character by character, each to a new tag.
 fn run(input: &[u8], image: &mut [u8], store: &mut [u8]) {
-    let session = session::begin(image);
-    let mut points = Points {
-        session,
-        reads: SESSION,
-        any: false,
-    };
+    let mut line = line::begin(image);
+    let mut session = session::new();
     for i in 0..input.len() {
-        points = step(points, image, store, input[i]);
+        let read = session::read(session, input[i]);
+        session = read.session;
+        let act = read.act;
+        line = line::perform(image, store, line, act);
     }
-    end(points);
-}
-
-// The next character.
-fn step(points: Points, image: &mut [u8], store: &mut [u8], c: u8) -> Points {
-    if c == b'\n' {
-        return reading(points, SESSION);
-    }
-    let reads = points.reads;
-    if reads == NAME {
-        io::write_all(STDOUT_FILENO, &[c]);
-        return points;
-    }
-    if reads == COMMENT {
-        return points;
-    }
-    match c {
-        b':' => begin(points, image),
-        b'#' => reading(points, COMMENT),
-        _ => play(points, image, store, c),
-    }
-}
-
-fn reading(points: Points, reads: u8) -> Points {
-    let session = points.session;
-    Points {
-        session,
-        reads,
-        any: points.any,
-    }
-}
-
-// The verdict on the point before, and a new tag.
-fn begin(points: Points, image: &mut [u8]) -> Points {
-    end(points);
-    let session = session::begin(image);
-    Points {
-        session,
-        reads: NAME,
-        any: true,
-    }
-}
-
-fn play(points: Points, image: &mut [u8], store: &mut [u8], c: u8) -> Points {
-    let before = points.session;
-    let session = session::step(image, store, before, c);
-    Points {
-        session,
-        reads: SESSION,
-        any: points.any,
-    }
-}
-
-// The verdict on the last point, if there is one.
-fn end(points: Points) {
-    if points.any {
-        let session = points.session;
-        verdict(session::is_right(session));
+    if session.any {
+        line::verdict(line.right && session.wanted == 0);
     }
 }

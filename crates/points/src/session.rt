@@ -1,4 +1,7 @@
-// A session as text, played character by character. Spaces between its parts count for nothing.
+// A session as text, read character by character; what is to be done goes to the line as an Act. Spaces between the parts count for
+// nothing.
+//   :           a point begins, with a new tag; its name is the rest of the line
+//   #           the rest of the line is a comment
 //   R           a reset, which the tag answers
 //   HH          a byte is sent
 //   =HH         a byte is read, and is this one
@@ -9,26 +12,57 @@
 //   !CCRRRRNN   an event of code CC and reading RRRR, which is answered with NN
 //   S           the image is remembered
 //   K           the image is as remembered but for the clock
-use crate::kept;
-use crate::line;
-use crate::line::Line;
+
+// What is read: a session, a point's name, a comment.
+const SESSION: u8 = 0;
+
+const NAME: u8 = 1;
+
+const COMMENT: u8 = 2;
+
+// What a character asks for.
+pub enum Act {
+    Nothing,
+    // A character of a point's name is printed.
+    Print(u8),
+    // The point before is judged, if there is one; whether it has all its digits. A new tag comes.
+    Begin(bool, bool),
+    // A byte is sent, or read and compared, so many times.
+    Bytes(u8, bool, u8),
+    // An event of this code leaves this bit on the line.
+    Slot(u8, bool),
+    // An event of this code and reading is answered with this number.
+    Event(u8, u16, u8),
+    // This reading, so many times.
+    Ticks(u16, u16),
+    Remember,
+    Kept,
+    // This is no session.
+    Wrong,
+}
 
 pub struct Session {
-    pub line: Line,
+    reads: u8,
+    // Whether a point has begun.
+    pub any: bool,
     // The part under way, by its first character, how many digits it still wants, and the number that those so far are.
     part: u8,
-    wanted: u8,
+    pub wanted: u8,
     value: u32,
     // The last byte, and whether it was read.
     byte: u8,
     is_read: bool,
 }
 
-// A session with a new tag.
-pub(crate) fn begin(image: &mut [u8]) -> Session {
-    let line = line::begin(image);
+pub struct Asked {
+    pub session: Session,
+    pub act: Act,
+}
+
+pub(crate) fn new() -> Session {
     Session {
-        line,
+        reads: SESSION,
+        any: false,
         part: 0,
         wanted: 0,
         value: 0,
@@ -37,142 +71,126 @@ pub(crate) fn begin(image: &mut [u8]) -> Session {
     }
 }
 
-// Whether all came as expected. A part whose digits are missing did not.
-pub(crate) fn is_right(session: Session) -> bool {
-    let line = session.line;
-    line.right && session.wanted == 0
-}
-
 // The next character.
-pub(crate) fn step(image: &mut [u8], store: &mut [u8], session: Session, c: u8) -> Session {
+pub(crate) fn read(session: Session, c: u8) -> Asked {
+    if c == b'\n' {
+        return reading(session, SESSION);
+    }
+    if session.reads == NAME {
+        return asks(session, Act::Print(c));
+    }
+    if session.reads == COMMENT {
+        return asks(session, Act::Nothing);
+    }
     match c {
-        b' ' => session,
-        b'0'..=b'9' => digit(image, session, c - b'0'),
-        b'A'..=b'F' => digit(image, session, c - b'A' + 10),
-        _ => part(image, store, session, c),
+        b' ' => asks(session, Act::Nothing),
+        b'#' => reading(session, COMMENT),
+        b':' => begin(session),
+        b'0'..=b'9' => digit(session, c - b'0'),
+        b'A'..=b'F' => digit(session, c - b'A' + 10),
+        _ => part(session, c),
     }
 }
 
-// A part begins, and is done at once if it has no digits.
-fn part(image: &mut [u8], store: &mut [u8], session: Session, c: u8) -> Session {
-    let before = session.line;
+fn asks(session: Session, act: Act) -> Asked {
+    Asked { session, act }
+}
+
+fn reading(session: Session, reads: u8) -> Asked {
+    let mut next = session;
+    next.reads = reads;
+    asks(next, Act::Nothing)
+}
+
+fn begin(session: Session) -> Asked {
+    let mut next = new();
+    next.reads = NAME;
+    next.any = true;
+    asks(next, Act::Begin(session.any, session.wanted == 0))
+}
+
+// A part begins, and is done at once if it has no digits. It is wrong to begin one inside another.
+fn part(session: Session, c: u8) -> Asked {
+    if session.wanted > 0 {
+        return done(session, Act::Wrong);
+    }
     match c {
         b'=' | b'X' => wants(session, c, 2),
         b'?' => wants(session, c, 1),
         b'T' | b'!' => wants(session, c, 8),
-        b'R' => on(session, line::slot(image, before, 2, false)),
-        b'+' => on(session, line::event(image, before, 1, 0, 0)),
-        b'-' => on(session, line::event(image, before, 0, 0, 0)),
-        b'S' => {
-            kept::remember(image, store);
-            session
-        }
-        b'K' => on(session, line::note(before, kept::is_kept(image, store))),
-        _ => on(session, line::note(before, false)),
+        b'R' => done(session, Act::Slot(2, false)),
+        b'+' => done(session, Act::Event(1, 0, 0)),
+        b'-' => done(session, Act::Event(0, 0, 0)),
+        b'S' => done(session, Act::Remember),
+        b'K' => done(session, Act::Kept),
+        _ => done(session, Act::Wrong),
     }
 }
 
-// A part that wants digits; it is wrong to begin one inside another.
-fn wants(session: Session, part: u8, wanted: u8) -> Session {
-    let before = session.line;
-    let line = line::note(before, session.wanted == 0);
-    Session {
-        line,
-        part,
-        wanted,
-        value: 0,
-        byte: session.byte,
-        is_read: session.is_read,
-    }
+fn wants(session: Session, part: u8, wanted: u8) -> Asked {
+    let mut next = session;
+    next.part = part;
+    next.wanted = wanted;
+    next.value = 0;
+    asks(next, Act::Nothing)
 }
 
-// A part is done.
-fn on(session: Session, line: Line) -> Session {
-    Session {
-        line,
-        part: 0,
-        wanted: 0,
-        value: 0,
-        byte: session.byte,
-        is_read: session.is_read,
-    }
+// A part is whole, and this is to be done.
+fn done(session: Session, act: Act) -> Asked {
+    let mut next = session;
+    next.part = 0;
+    next.wanted = 0;
+    next.value = 0;
+    asks(next, act)
 }
 
 // One more digit. With no part under way it begins a byte that is sent.
-fn digit(image: &mut [u8], session: Session, d: u8) -> Session {
+fn digit(session: Session, d: u8) -> Asked {
     if session.wanted == 0 {
-        return taken(image, wants(session, 0, 2), d);
+        let mut next = session;
+        next.wanted = 1;
+        next.value = d as u32;
+        return asks(next, Act::Nothing);
     }
-    taken(image, session, d)
-}
-
-fn taken(image: &mut [u8], session: Session, d: u8) -> Session {
-    let line = session.line;
-    let next = Session {
-        line,
-        part: session.part,
-        wanted: if session.wanted > 0 {
-            session.wanted - 1
-        } else {
-            0
-        },
-        value: session.value % 0x10000000 * 16 + (d % 16) as u32,
-        byte: session.byte,
-        is_read: session.is_read,
-    };
+    let mut next = session;
+    next.wanted = session.wanted - 1;
+    next.value = session.value % 0x10000000 * 16 + (d % 16) as u32;
     if next.wanted > 0 {
-        return next;
+        return asks(next, Act::Nothing);
     }
-    whole(image, next)
+    whole(next)
 }
 
 // A part has all its digits.
-fn whole(image: &mut [u8], session: Session) -> Session {
-    let before = session.line;
+fn whole(session: Session) -> Asked {
     let value = session.value;
+    let low = (value % 256) as u8;
     let part = session.part;
     match part {
-        0 => bytes(image, session, (value % 256) as u8, false, 1),
-        b'=' => bytes(image, session, (value % 256) as u8, true, 1),
-        b'X' => bytes(
-            image,
+        0 => byte(session, low, false),
+        b'=' => byte(session, low, true),
+        b'X' => done(
             session,
-            session.byte,
-            session.is_read,
-            less_one((value % 256) as u8),
+            Act::Bytes(session.byte, session.is_read, less_one(low)),
         ),
-        b'?' => on(session, line::slot(image, before, 1, value % 16 == 1)),
-        b'T' => on(
+        b'?' => done(session, Act::Slot(1, value % 16 == 1)),
+        b'T' => done(
             session,
-            line::ticks(
-                image,
-                before,
-                (value / 65536) as u16,
-                (value % 65536) as u16,
-            ),
+            Act::Ticks((value / 65536) as u16, (value % 65536) as u16),
         ),
         _ => {
             let code = (value / 0x1000000) as u8;
             let reading = (value / 256 % 65536) as u16;
-            on(
-                session,
-                line::event(image, before, code, reading, (value % 256) as u8),
-            )
+            done(session, Act::Event(code, reading, low))
         }
     }
 }
 
-fn bytes(image: &mut [u8], session: Session, byte: u8, is_read: bool, count: u8) -> Session {
-    let before = session.line;
-    let line = line::bytes(image, before, byte, is_read, count);
-    Session {
-        line,
-        part: 0,
-        wanted: 0,
-        value: 0,
-        byte,
-        is_read,
-    }
+fn byte(session: Session, byte: u8, is_read: bool) -> Asked {
+    let mut next = session;
+    next.byte = byte;
+    next.is_read = is_read;
+    done(next, Act::Bytes(byte, is_read, 1))
 }
 
 fn less_one(count: u8) -> u8 {
