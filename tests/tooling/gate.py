@@ -28,6 +28,7 @@ def gate(failing):
         shutil.copy(os.path.join(TOP, ".ci", "run"), os.path.join(folder, ".ci", "run"))
         for script in SCRIPTS:
             make(folder, script, "echo '1 passed, 0 failed'; exit " + ("1" if script == failing else "0"))
+        make(folder, "run", "echo built; exit " + ("1" if failing == "run" else "0"))
         make(folder, "bin/rt", "touch proved; echo '7 passed, 0 failed'; exit 4")
         path = f"{os.path.join(folder, 'bin')}:{os.environ['PATH']}"
         done = start([os.path.join(folder, ".ci", "run")], cwd="/", env={**os.environ, "PATH": path, "CI": "true"})
@@ -43,3 +44,5 @@ def checks():
         status, lines, proved = gate(script)
         right = status != DONE and lines[-1] == f"gate: FAILED: {script}, before anything was proved" and not proved
         yield f"the gate, {script} failing", right, (status, lines, proved)
+    status, lines, proved = gate("run")
+    yield "the gate, a build failing", status != DONE and lines[-1] == "gate: built" and not proved, (status, lines, proved)
