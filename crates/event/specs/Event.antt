@@ -13,6 +13,7 @@ use Rattle.bus.specs.declared.Deed.{Deed}
 use Rattle.bus.specs.declared.Question.{Question}
 use Rattle.mission.specs.declared.Counters.{Counters}
 use Rattle.mission.specs.Mission as mission
+use Rattle.record.specs.declared.Answered.{Answered}
 use Rattle.record.specs.declared.Tag.{Tag}
 use Rattle.record.specs.Record.{Outcome, accepted}
 pub mod Laws
@@ -64,13 +65,12 @@ slotted image tag bit =
 -- ---- a reset and a tick
 
 -- "2 reset": bit 0, the presence
+abbrev pub present : Tag → Answered
+present tag = accepted (record { code = tag .code; counters = tag .counters; exchange = exchange.afterReset (tag .exchange) }) false
+
+-- it has nothing to do with the image
 unfoldable pub resetTag : List ℕ → Tag → Outcome
-resetTag image tag =
-    record {
-      answered =
-          accepted (record { code = tag .code; counters = tag .counters; exchange = exchange.afterReset (tag .exchange) }) false;
-      image = image;
-    }
+resetTag image tag = record { answered = present tag; image = image }
 
 -- "3 tick of one second": bit 1
 unfoldable pub tickTag : List ℕ → Tag → ℕ → Outcome

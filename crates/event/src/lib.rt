@@ -7,9 +7,8 @@ use mission::Counters;
 use record::Answered;
 use record::Tag;
 ghost use mathlib.Core.Path.{_≡_};
-ghost use mathlib.Core.List.{[]};
 ghost use Rattle.bits.specs.Bits.{digit};
-ghost use Rattle.event.specs.Event.{answerTo, performed, performedCounters, slotted, resetTag, tickTag};
+ghost use Rattle.event.specs.Event.{answerTo, performed, performedCounters, slotted, present, tickTag};
 
 // A slot: the exchange asks, the image answers, the exchange moves on, and its deed is done to the image.
 pub fn slot(image: &mut [u8], tag: Tag, bit: bool) -> Answered
@@ -33,7 +32,7 @@ pub fn slot(image: &mut [u8], tag: Tag, bit: bool) -> Answered
 
 // A reset: the presence is bit 0.
 pub fn reset(tag: Tag) -> Answered
-    ensures { λ r. ⌜ r ≡ resetTag [] tag .answered ⌝ }
+    ensures { λ r. ⌜ r ≡ present tag ⌝ }
 {
     let counters = tag.counters;
     let exchange = exchange::reset(tag.exchange);

@@ -1,9 +1,7 @@
 -- `event::reset` meets its contract. Assumes nothing.
 use borrow.Author.Needs.{needs}
-use Rattle.event.specs.Event.{resetTag}
 use Rattle.event.proofs.reset.Statement.{statement}
 use Rattle.event.proofs.reset.Tie as tie
 
 pub reset-spec : {M : Type 1} → statement M
-unfolding resetTag
 reset-spec = tie.close (tie.spec (search needs) (search needs) (λ c. simp (c .accept .ensures, c .before .reset .ensures)))

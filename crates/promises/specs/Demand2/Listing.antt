@@ -11,12 +11,15 @@ use lib.ListN.{length, getD}
 use Rattle.answer.specs.declared.Answer.the-variants.{Accepted, Places}
 use Rattle.bits.specs.Bits.{digit}
 use Rattle.bits.specs.Choose.{if_then_else_}
+use Rattle.dock.specs.Dumped.{Agree}
 use Rattle.dock.specs.Entries
 use Rattle.dock.specs.Listing.{isKnown, isOverfull, isUnflagged, cannotBe, listed, refused, listingOf, temperaturesOf}
 use Rattle.dock.specs.Listing.Laws.{can-be}
 use Rattle.dock.specs.Listing.Memory.{memory-listing, memory-temperature, memory-past, memory-few, memory-untouched}
 use Rattle.dock.specs.Registers as Dock
+use Rattle.dump.specs.Check.{checkOf}
 use Rattle.dump.specs.Dump.{dumpOf, dump-accepted}
+use Rattle.dump.specs.Lines.{dumpedAt}
 use Rattle.image.specs.Fields.{flagAt}
 use Rattle.image.specs.Registers
 use Rattle.image.specs.Sent.{sentAt}
@@ -111,6 +114,15 @@ module _ {start : List ℕ} {es : List Conversion} {image : List ℕ} (p : Liste
 
     -- ---- the listing
 
+    lines : checkOf (dumpOf image code) ≡ Accepted
+    lines = dump-accepted image code (p .whole .bytes) small
+
+    same : Agree (dumpedAt (dumpOf image code)) (sentAt image code)
+    same = dump-agrees image code (p .whole) small
+
+    kept : Dock.memclr (sentAt image code) ≡ false
+    kept = memclr-sent image code ∙ p .memclr
+
     -- enough places
     module _ (lent : List ℤ) (enough : min (length es) (conversion.places start) ≤ length lent) where
       fits : Entries.held (sentAt image code) ≤ length lent
@@ -129,11 +141,7 @@ module _ {start : List ℕ} {es : List Conversion} {image : List ℕ} (p : Liste
           }
       unfolding listed settingsOf flagAt
       listing-read =
-          memory-listing (dumpOf image code) (sentAt image code) (dump-accepted image code (p .whole .bytes) small) (dump-agrees image code (p .whole) small)
-          (memclr-sent image code ∙ p .memclr)
-          can
-          (length lent)
-          fits
+          memory-listing (dumpOf image code) (sentAt image code) lines same kept can (length lent) fits
           ∙ rw (
             sent-code image code,
             held-read,
@@ -151,34 +159,18 @@ module _ {start : List ℕ} {es : List Conversion} {image : List ℕ} (p : Liste
           (History.kept (settingsOf start) (getD es (length es - min (length es) (conversion.places start) + i) none .reading))
       temperature-read i h =
           let k = length es - min (length es) (conversion.places start) + i in
-          memory-temperature (dumpOf image code) (sentAt image code) (dump-accepted image code (p .whole .bytes) small) (dump-agrees image code (p .whole) small)
-          (memclr-sent image code ∙ p .memclr)
-          can
-          lent
-          fits
-          i
-          (rw held-read h)
+          memory-temperature (dumpOf image code) (sentAt image code) lines same kept can lent fits i (rw held-read h)
           ∙ rw (sent-code image code, first-read, reading-sent image code k, places-same (p .settings))
           (ap (Entries.temperatureOf code) (p .entries k (omega arith) (omega (arith, places-pos start))))
 
       pub past-read : (i : ℕ) → min (length es) (conversion.places start) ≤ i
           → getD (temperaturesOf (dumpOf image code) lent) i (pos 0) ≡ getD lent i (pos 0)
-      past-read i h =
-          memory-past (dumpOf image code) (sentAt image code) (dump-accepted image code (p .whole .bytes) small) (dump-agrees image code (p .whole) small)
-          (memclr-sent image code ∙ p .memclr)
-          can
-          lent
-          fits
-          i
-          (rw held-read h)
+      past-read i h = memory-past (dumpOf image code) (sentAt image code) lines same kept can lent fits i (rw held-read h)
 
     -- too few places
     module _ (lent : List ℤ) (few : length lent < min (length es) (conversion.places start)) where
       pub few-read : (listingOf (dumpOf image code) (length lent) ≡ refused Places) × (temperaturesOf (dumpOf image code) lent ≡ lent)
       few-read =
-          let lines = dump-accepted image code (p .whole .bytes) small in
-          let same = dump-agrees image code (p .whole) small in
-          let kept = memclr-sent image code ∙ p .memclr in
           let less : length lent < Entries.held (sentAt image code) = rw held-read few in (
             memory-few (dumpOf image code) (sentAt image code) lines same kept can (length lent) less,
             memory-untouched (dumpOf image code) (sentAt image code) lines same kept can lent less,

@@ -72,15 +72,19 @@ pub record PremisesMet : Type 0 where
 
 -- ---- (ii) and (iii): all premises but one hold, that one fails, and the bits on the line differ
 
--- (ii) premise 4 alone fails: a field carries a password
+-- premise 4 alone fails: a field carries a password
+pub record FieldCarried (s t : State) (E F : List Event) : Type 0 where
+  pub begins : Begins s t E F
+  pub alarms : Together AlarmsAgree s E t F
+  pub carried : NoneCarried s t E F → ⊥
+
+-- (ii) then the bits differ
 pub record FieldsNeeded : Type 0 where
   pub s : State
   pub t : State
   pub E : List Event
   pub F : List Event
-  pub begins : Begins s t E F
-  pub alarms : Together AlarmsAgree s E t F
-  pub carried : NoneCarried s t E F → ⊥
+  pub given : FieldCarried s t E F
   pub differ : run s E .line ≢ run t F .line
 
 -- (iii) premise 5 alone fails: at a Conditional Search one tag has an alarm flag set, and the other none
@@ -122,7 +126,5 @@ pub record SpoilsWithPassword : Type 0 where
   pub t : State
   pub E : List Event
   pub F : List Event
-  pub begins : Begins s t E F
-  pub alarms : Together AlarmsAgree s E t F
-  pub carried : NoneCarried s t E F → ⊥
+  pub given : FieldCarried s t E F
   pub spoilt : LeftToTicks s E → ⊥

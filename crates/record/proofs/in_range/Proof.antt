@@ -1,9 +1,19 @@
 -- `record::in_range` meets its contract, test by test. Assumes nothing.
+use mathlib.Core.Bool.{true}
+use mathlib.Core.Path.{_≡_}
 use borrow.Author.Needs.{needs}
 use borrow.Author.Tests.{not-true, not-false}
-use Rattle.record.specs.Record.{tagInRange}
+use Rattle.record.specs.Record.{goodNumber, goodCode, tagInRange}
 use Rattle.record.proofs.in_range.Statement.{statement}
 use Rattle.record.proofs.in_range.Tie as tie
+
+-- past the first test the number is good ..
+numbered : (c : tie.Else1) → goodNumber (c .before .before .before .before .args .tag .exchange .number) ≡ true
+numbered c = rw (← c .before .good-number .ensures) (not-false (c .before .good-number .result) (c .if1 .left))
+
+-- .. past the second the code ..
+coded : (c : tie.Else2) → goodCode (c .before .before .before .before .before .before .args .tag .code) ≡ true
+coded c = rw (← c .before .good-code .ensures) (not-false (c .before .good-code .result) (c .if2 .left))
 
 returns : tie.Need-returns
 unfolding tagInRange
@@ -12,41 +22,28 @@ returns c = simp (← c .before .good-number .ensures, not-true (c .before .good
 returns-2 : tie.Need-returns-2
 unfolding tagInRange
 returns-2 c =
-    let code = c .before in
-    let number = code .before .before in
-    simp (
-      ← number .good-number .ensures,
-      not-false (number .good-number .result) (code .before .if1 .left),
-      ← code .good-code .ensures,
-      not-true (code .good-code .result) (c .if2 .taken),
-    )
+    simp (numbered (c .before .before), ← c .before .good-code .ensures, not-true (c .before .good-code .result) (c .if2 .taken))
 
 returns-3 : tie.Need-returns-3
 unfolding tagInRange
 returns-3 c =
-    let counters = c .before in
-    let code = counters .before .before in
-    let number = code .before .before in
+    let code = c .before .before in
     simp (
-      ← number .good-number .ensures,
-      not-false (number .good-number .result) (code .before .if1 .left),
-      ← code .good-code .ensures,
-      not-false (code .good-code .result) (counters .before .if2 .left),
-      ← counters .in-range .ensures,
-      not-true (counters .in-range .result) (c .if3 .taken),
+      numbered (code .before .before),
+      coded code,
+      ← c .before .in-range .ensures,
+      not-true (c .before .in-range .result) (c .if3 .taken),
     )
 
+-- .. and past the third the counters, so that the exchange decides
 returns-4 : tie.Need-returns-4
 unfolding tagInRange
 returns-4 c =
     let counters = c .before .before in
-    let code = counters .before .before in
-    let number = code .before .before in
+    let code = counters .before in
     simp (
-      ← number .good-number .ensures,
-      not-false (number .good-number .result) (code .before .if1 .left),
-      ← code .good-code .ensures,
-      not-false (code .good-code .result) (counters .before .if2 .left),
+      numbered (code .before .before),
+      coded code,
       ← counters .in-range .ensures,
       not-false (counters .in-range .result) (c .before .if3 .left),
       c .in-range2 .ensures,

@@ -148,9 +148,12 @@ fields-needed =
       t = second;
       E = reads;
       F = reads;
-      begins = begun;
-      alarms = reads-agree;
-      carried = λ none. reads-differ (demand3 first second reads reads (record { begins = begun; fields = none; alarms = reads-agree }) .line);
+      given =
+          record {
+            begins = begun;
+            alarms = reads-agree;
+            carried = λ none. reads-differ (demand3 first second reads reads (record { begins = begun; fields = none; alarms = reads-agree }) .line);
+          };
       differ = reads-differ;
     }
 
@@ -255,9 +258,12 @@ spoils-with-password =
       t = second;
       E = clearances;
       F = clearances;
-      begins = begun;
-      alarms = clearances-agree;
-      carried = λ none. clearances-spoil
-          (demand3 first second clearances clearances (record { begins = begun; fields = none; alarms = clearances-agree }) .left-s);
+      given =
+          record {
+            begins = begun;
+            alarms = clearances-agree;
+            carried = λ none. clearances-spoil
+                (demand3 first second clearances clearances (record { begins = begun; fields = none; alarms = clearances-agree }) .left-s);
+          };
       spoilt = clearances-spoil;
     }
