@@ -1,5 +1,5 @@
 #!/bin/sh
-# Builds both programs without a warning and runs the points of document 01 on them.
+# Builds the plain programs without a warning and runs the points of document 01 on those of play and list.
 # The last line is 'N passed, M failed'.
 cd "$(dirname "$0")" || exit 1
 passed=0
@@ -18,6 +18,13 @@ check() {
 for program in plain_play plain_list; do
     warnings=$(gcc -O2 -Wall -Wextra -std=c11 -o "$program" "$program.c" 2>&1)
     check "$program builds without a warning" "$?$warnings" "0"
+done
+# A function for the main of tests/driver/lists.c, with its checks and without.
+object=$(mktemp)
+trap 'rm -f "$object"' EXIT
+for checks in CHECKED UNCHECKED; do
+    warnings=$(gcc -O2 -Wall -Wextra -std=c11 "-D$checks" -c -o "$object" plain_lists.c 2>&1)
+    check "plain_lists builds without a warning, $checks" "$?$warnings" "0"
 done
 
 # The registration number of document 01, 41 2B C5 FB 00 00 00 with CRC-8 A1.

@@ -3,11 +3,12 @@
 slots: a reader at a tag with passwords, over and over: Read ROM, a search, a write and read back of the scratchpad, pages
 of the log read with a wrong and a right password. seconds, minutes: ticks in a mission that converts every second (16-bit
 entries, rollover) or every minute. dump: a log of 8,192 entries, full and rolled over. bench/count also takes ticks of which
-none but the first converts, and a dump of 4,096 entries.
+none but the first converts, and a dump of 4,096 entries. The same events go to the programs of lists as words.
 """
 
 import pathlib
 import random
+import struct
 import sys
 
 sys.path.insert(0, str(pathlib.Path(__file__).resolve().parent.parent / "tests"))
@@ -17,14 +18,21 @@ from model.crc import crc8  # noqa: E402
 from model.master import Master  # noqa: E402
 
 PLAYED = {
-    "slots": "`play`: slots of a reader's commands",
-    "seconds": "`play`: ticks in a mission, a conversion every second",
-    "minutes": "`play`: ticks in a mission, a conversion every minute",
+    "slots": "slots of a reader's commands",
+    "seconds": "ticks in a mission, a conversion every second",
+    "minutes": "ticks in a mission, a conversion every minute",
 }
 LEAST_EVENTS = 2_000_000
+# How many words a list has; and how many events go to the programs of lists, which take 1,048,576 words, the set-up's included.
+LIST_SIZES = (64, 4096)
+LISTED_EVENTS = 1_000_000
 ROM = bytes.fromhex("412BC5FB000000")
 ROM += bytes((crc8(ROM),))
 CODE = 0x40
+# An input of play that has no event.
+NEW_TAG = ROM + bytes((CODE,))
+# A tick's code as an event of play, and the word of one with reading 0 in a list.
+TICK, FIRST_TICK = 3, 4096
 FULL, READ = b"GROWER-1", b"INSPECT1"
 
 # Mission control: EHSS, entries of two bytes, rollover.
@@ -37,7 +45,7 @@ BYTES = {"clock_control": 0x03, "rate": 1, "control": 0xD1}
 
 
 def new_master():
-    number, made = tag.new(ROM, CODE, bytearray(8832))
+    number, made = tag.new(ROM, CODE, bytearray(tag.IMAGE_LENGTH))
     assert number == 0
     return Master(made)
 
@@ -70,10 +78,10 @@ def readings(rng):
 def events_of(master, before, least):
     """A header, what was played before, and the rest of what was played, repeated until it is long enough."""
     body = bytes(master.triples[before:])
-    return ROM + bytes((CODE,)) + bytes(master.triples[:before]) + body * -(-least * 3 // len(body))
+    return NEW_TAG + bytes(master.triples[:before]) + body * -(-least * 3 // len(body))
 
 
-def slots(least=LEAST_EVENTS):
+def slots(least):
     master = new_master()
     set_up(master, SECONDS)
     before = len(master.triples)
@@ -91,15 +99,15 @@ def slots(least=LEAST_EVENTS):
     return events_of(master, before, least)
 
 
-def ticks(settings, count=LEAST_EVENTS):
+def ticks(settings, count):
     master = new_master()
     set_up(master, settings)
     wander = readings(random.Random(1))
     events = bytearray()
     for _ in range(count):
         reading = next(wander)
-        events += bytes((3, reading >> 8, reading & 0xFF))
-    return ROM + bytes((CODE,)) + bytes(master.triples) + bytes(events)
+        events += bytes((TICK, reading >> 8, reading & 0xFF))
+    return NEW_TAG + bytes(master.triples) + bytes(events)
 
 
 def full_dump(settings):
@@ -111,14 +119,28 @@ def full_dump(settings):
     return dock.dump(master.tag)
 
 
+def played(count):
+    """The inputs that are played, of at least so many events."""
+    return {"slots": slots(count), "seconds": ticks(SECONDS, count), "minutes": ticks(MINUTES, count)}
+
+
 def write_all(files):
     """Writes every input to its file; returns the number of events of each that is played."""
-    made = {"slots": slots(), "seconds": ticks(SECONDS), "minutes": ticks(MINUTES), "dump": full_dump(BYTES), "empty": b""}
+    made = {**played(LEAST_EVENTS), "dump": full_dump(BYTES), "empty": b""}
     for name, path in files.items():
         path.write_bytes(made[name])
     return {name: events_in(made[name]) for name in PLAYED}
 
 
-def events_in(played):
+def events_in(given):
     """How many events an input of play has."""
-    return (len(played) - len(ROM) - 1) // 3
+    return (len(given) - len(NEW_TAG)) // 3
+
+
+def in_lists(given, size):
+    """The tag and the events of an input of play as tests/driver/lists.c takes them: so many words a list, the last one what is
+    left, and a reply byte each."""
+    words = [FIRST_TICK + reading if code == TICK else code for code, reading in struct.iter_unpack(">BH", given[len(NEW_TAG):])]
+    sizes = [min(size, len(words) - at) for at in range(0, len(words), size)]
+    return (struct.pack("<II", tag.IMAGE_LENGTH, len(sizes)) + given[:len(NEW_TAG)]
+            + b"".join(struct.pack("<II", each, each) for each in sizes) + struct.pack(f"<{len(words)}H", *words))

@@ -1,7 +1,7 @@
-"""Deliberate faults of the model, each a line or two changed, to show that the sessions and dumps would catch them.
+"""Deliberate faults of the model, each a line or two changed, to show that the sessions, dumps and lists would catch them.
 
 A fault names the file of the model, the text to be replaced, which must stand there exactly once, and its replacement.
-`load` gives the programs of a model with one fault; the model itself is left as it is.
+`load` gives the programs of a model with one fault, or another module of it; the model itself is left as it is.
 """
 
 import importlib
@@ -11,7 +11,7 @@ import types
 from typing import NamedTuple
 
 FOLDER = pathlib.Path(__file__).parent / "model"
-MODULES = ("crc", "tag", "dock", "programs")
+MODULES = ("crc", "tag", "dock", "lists", "programs")
 
 
 class Fault(NamedTuple):
@@ -21,8 +21,8 @@ class Fault(NamedTuple):
     new: str
 
 
-def load(fault):
-    """The faulty model's module of programs."""
+def load(fault, wanted="programs"):
+    """A module of the faulty model, that of the programs if no other is wanted."""
     package = "faulty_" + "".join(c if c.isalnum() else "_" for c in fault.name)
     sys.modules[package] = types.ModuleType(package)
     sys.modules[package].__path__ = []
@@ -37,7 +37,7 @@ def load(fault):
         sys.modules[module.__name__] = module
         setattr(sys.modules[package], name, module)
         exec(compile(source, f"{name}.py with '{fault.name}'", "exec"), module.__dict__)
-    return importlib.import_module(f"{package}.programs")
+    return importlib.import_module(f"{package}.{wanted}")
 
 
 FAULTS = (
@@ -164,4 +164,68 @@ FAULTS = (
     Fault("a full log with SUTA refused", "dock", "count > places(register)", "count >= places(register)"),
     Fault("an 18,835th byte not noticed", "dock", "if len(text) != DUMP_LENGTH:", "if len(text) < DUMP_LENGTH:"),
     Fault("small digits taken", "dock", 'DIGITS = b"0123456789ABCDEF"', 'DIGITS = b"0123456789ABCDEFabcdef"'),
+)
+
+# ---- The call that takes a list of events, for tests/lists ----
+
+# What is asked of a whole list, what of each word, and the two ends of a list.
+FEW_REPLIES = "    if len(words) > len(replies):\n        return FEW_REPLIES, 0\n"
+BAD_IMAGE = "    if len(tag.image) != IMAGE_LENGTH:\n        return BAD_IMAGE, 0\n"
+BAD_RECORD = "    if not tag.in_ranges:\n        return BAD_RECORD, 0\n"
+EACH_WORD = "    for done, word in enumerate(words):\n        event = event_of(word)\n        if event is None:\n"
+REFUSED = "            return REFUSED_WORD, done\n"
+ALL_DONE = "    return 0, len(words)\n"
+
+LIST_FAULTS = (
+    # 17, 3 and 6
+    Fault("3 asked before 17", "lists", FEW_REPLIES + BAD_IMAGE, BAD_IMAGE + FEW_REPLIES),
+    Fault("6 asked before 17", "lists", FEW_REPLIES + BAD_IMAGE, BAD_RECORD + FEW_REPLIES + BAD_IMAGE),
+    Fault("6 asked before 3", "lists", BAD_IMAGE + BAD_RECORD, BAD_RECORD + BAD_IMAGE),
+    Fault("3 asked of a bad record alone", "lists", "if len(tag.image) != IMAGE_LENGTH:",
+          "if len(tag.image) != IMAGE_LENGTH and not tag.in_ranges:"),
+    Fault("an empty list never refused", "lists", BAD_IMAGE, "    if not words:\n        return 0, 0\n" + BAD_IMAGE),
+    Fault("1 for the first word before 3 and 6", "lists", BAD_IMAGE,
+          "    if words and event_of(words[0]) is None:\n        return REFUSED_WORD, 0\n" + BAD_IMAGE),
+    Fault("17 for as many reply bytes as words", "lists", "len(words) > len(replies)", "len(words) >= len(replies)"),
+    Fault("17 for more reply bytes than words", "lists", "len(words) > len(replies)", "len(words) != len(replies)"),
+    Fault("17 after the words with a reply byte", "lists", "return FEW_REPLIES, 0",
+          "return FEW_REPLIES, events(tag, words[:len(replies)], replies)[1]"),
+    Fault("17 after all words, unseen", "lists", "return FEW_REPLIES, 0",
+          "return FEW_REPLIES, 0 * events(tag, words, bytearray(len(words)))[1]"),
+
+    # Which words are events
+    Fault("word 3 is a tick", "lists", "    if word <= 2:\n", "    if word == 3:\n        return 3, 0\n    if word <= 2:\n"),
+    Fault("word 4095 is a tick", "lists", "    return None\n", "    return (3, 0) if word == 4095 else None\n"),
+    Fault("word 6144 is a tick", "lists", "    return None\n", "    return (3, 2047) if word == 6144 else None\n"),
+    Fault("a word's upper three bits dropped", "lists", "    if word <= 2:\n", "    word %= 8192\n    if word <= 2:\n"),
+    Fault("a reading one more", "lists", "return 3, word - FIRST_TICK", "return 3, (word - FIRST_TICK + 1) % 2048"),
+    Fault("2 for a reading above 2047", "lists", "return REFUSED_WORD, done",
+          "return 2 if word > LAST_TICK else REFUSED_WORD, done"),
+
+    # A refused word
+    Fault("a refused word passed over", "lists", REFUSED, "            continue\n"),
+    Fault("a refused word's reply byte filled", "lists", REFUSED, "            replies[done] = 1\n" + REFUSED),
+    Fault("a refused word counted as done", "lists", "return REFUSED_WORD, done", "return REFUSED_WORD, done + 1"),
+    Fault("the words behind a refused one done, unseen", "lists", REFUSED,
+          "            events(tag, words[done + 1:], bytearray(len(words)))\n" + REFUSED),
+    Fault("answer 1 clears the reply bytes left", "lists", REFUSED,
+          "            replies[done:] = bytes(len(replies) - done)\n" + REFUSED),
+    Fault("answer 1 does nothing", "lists", EACH_WORD,
+          "    if None in map(event_of, words):\n        return REFUSED_WORD, 0\n" + EACH_WORD),
+    Fault("answer 1 leaves the image of before the list", "lists", EACH_WORD,
+          "    before = bytes(tag.image)\n" + EACH_WORD + "            tag.image[:] = before\n"),
+    Fault("answer 1 leaves the record of before the list, but the line's", "lists", EACH_WORD,
+          "    before = dict(vars(tag))\n" + EACH_WORD + "            vars(tag).update(before, line=tag.line)\n"),
+    Fault("answer 1 silences the tag", "lists", REFUSED, "            tag.line = None\n" + REFUSED),
+
+    # A list that is all done
+    Fault("ended by the first tick", "lists", ALL_DONE, "        if word > 2:\n            return 0, done + 1\n" + ALL_DONE),
+    Fault("a tick's reply byte left", "lists", "_, replies[done] = tag.event(*event)",
+          "bit = tag.event(*event)[1]\n        replies[done] = bit if word <= 2 else replies[done]"),
+    Fault("a reset's reply 1", "lists", "_, replies[done] = tag.event(*event)",
+          "replies[done] = tag.event(*event)[1] | (word == 2)"),
+    Fault("the reply bytes past the words cleared", "lists", ALL_DONE,
+          "    replies[len(words):] = bytes(len(replies) - len(words))\n" + ALL_DONE),
+    Fault("the tag silent after a list", "lists", ALL_DONE, "    tag.line = None\n" + ALL_DONE),
+    Fault("a reset before a list", "lists", EACH_WORD, "    tag.reset()\n" + EACH_WORD),
 )

@@ -10,7 +10,7 @@ from .common import DONE, TOP, start
 
 with open(os.path.join(TOP, ".ci", "run"), encoding="utf-8") as file:
     SCRIPTS = re.findall(r"(?m)^without_proof (\S+)", file.read())
-DUE = {"tests/determinacy", "tests/examples", "tests/tools", "tests/take", "tests/run"}
+DUE = {"tests/determinacy", "tests/examples", "tests/tools", "tests/take", "tests/run", "tests/lists"}
 
 
 def make(folder, path, text):

@@ -18,6 +18,7 @@ REFUSALS = {
     10: "the tag's memory is cleared (MEMCLR is 1): there is no mission to list",
     11: "the dump can't be of a mission: its code, sample rate, ETL bit or counts",
     12: "fewer places for temperatures than entries held",
+    17: "fewer reply bytes than the list of events has words",
 }
 DEVICES = {0x40: "DS1922L", 0x60: "DS1922T"}
 DEGREE = 16  # temperatures are in sixteenths of a degree

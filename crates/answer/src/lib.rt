@@ -1,10 +1,12 @@
-// What every call of the tag and of the dock answers: accepted, or why not. One list for both, in the order of document 01's table.
+// What every call of the tag and of the dock answers: accepted, or why not. One list for both, in the order of document 01's table and
+// of the numbers that the change requests add to it.
 ghost use mathlib.Core.Path.{_≡_};
 ghost use Rattle.answer.specs.Answer.{answerNumber, refusalText};
+ghost use Rattle.answer.specs.Answer.Laws.{placeOf};
 
 pub enum Answer {
     Accepted,
-    // An event code above 3.
+    // An event code above 3, or a list's word that is no event.
     EventCode,
     // A tick with a reading above 2047.
     Reading,
@@ -28,11 +30,22 @@ pub enum Answer {
     Counts,
     // Fewer places lent for temperatures than entries held.
     Places,
+    // Fewer reply bytes lent than the list has words.
+    Replies,
 }
 
-// The number that document 01 gives the answer.
+// The number that document 01, or a change request, gives the answer.
 pub fn number(answer: Answer) -> u8
     ensures { λ r. ⌜ r ≡ answerNumber answer ⌝ }
+{
+    let place = place(answer);
+    if place < 13 { place } else { 17 }
+}
+
+// The answer's place in the list, which up to 12 is its number. Places in a row need no table, and whoever asks for the number 0 asks
+// for the first of them (bench/README.md).
+fn place(answer: Answer) -> u8
+    ensures { λ r. ⌜ r ≡ placeOf answer ⌝ }
 {
     match answer {
         Answer::Accepted => 0,
@@ -48,6 +61,7 @@ pub fn number(answer: Answer) -> u8
         Answer::Cleared => 10,
         Answer::Counts => 11,
         Answer::Places => 12,
+        Answer::Replies => 13,
     }
 }
 

@@ -2,21 +2,15 @@
 use image::peek;
 use image::poke;
 
-pub(crate) fn remember(image: &[u8], store: &mut [u8]) {
-    for i in 0..8832 {
-        poke(store, i, peek(image, i));
-    }
-}
-
-// Whether every byte is as remembered, but for the clock's six, 0200h-0205h.
-pub(crate) fn is_kept(image: &[u8], store: &[u8]) -> bool {
+// Whether every byte is as remembered, but for the clock's six, 0200h-0205h. A new image is remembered first.
+pub(crate) fn is_kept(image: &[u8], store: &mut [u8], is_new: bool) -> bool {
     let mut same = true;
     for i in 0..8832 {
-        same = same && (is_clock(i) || peek(image, i) == peek(store, i));
+        let byte = peek(image, i);
+        let kept = if is_new { byte } else { peek(store, i) };
+        poke(store, i, kept);
+        let is_clock = (0x0200 <= i) & (i <= 0x0205);
+        same = same & (is_clock | (kept == byte));
     }
     same
-}
-
-fn is_clock(i: usize) -> bool {
-    0x0200 <= i && i <= 0x0205
 }

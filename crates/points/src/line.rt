@@ -1,7 +1,10 @@
 // The master's side of the line, over a tag and a note whether all came as expected.
 use crate::kept;
-use crate::session::Act;
-use libc::STDOUT_FILENO;
+use crate::lists;
+use crate::session;
+use crate::session::Calls;
+use crate::session::PART;
+use image::peek;
 use record::Tag;
 
 // The tag, and whether every answer so far was the expected one.
@@ -21,38 +24,25 @@ pub(crate) fn begin(image: &mut [u8]) -> Line {
     }
 }
 
-// Does what the session asks for.
-pub(crate) fn perform(image: &mut [u8], store: &mut [u8], line: Line, act: Act) -> Line {
-    match act {
-        Act::Nothing => line,
-        Act::Print(c) => {
-            io::write_all(STDOUT_FILENO, &[c]);
-            line
-        }
-        Act::Begin(any, whole) => {
-            if any {
-                verdict(line.right && whole);
-            }
-            begin(image)
-        }
-        Act::Bytes(value, is_read, count) => bytes(image, line, value, is_read, count),
-        Act::Slot(code, bit) => slot(image, line, code, bit),
-        Act::Event(code, reading, number) => event(image, line, code, reading, number),
-        Act::Ticks(reading, count) => ticks(image, line, reading, count),
-        Act::Remember => {
-            kept::remember(image, store);
-            line
-        }
-        Act::Kept => note(line, kept::is_kept(image, store)),
-        Act::Wrong => note(line, false),
+// Does what the part says that the text begins with, if it begins with one.
+pub(crate) fn perform(
+    image: &mut [u8],
+    store: &mut [u8],
+    line: Line,
+    text: &[u8],
+    reads: u8,
+) -> Line {
+    if reads != PART {
+        return line;
     }
-}
-
-pub(crate) fn verdict(right: bool) {
-    if right {
-        io::write_all(STDOUT_FILENO, b": ok\n");
-    } else {
-        io::write_all(STDOUT_FILENO, b": WRONG\n");
+    let c = peek(text, 0);
+    match c {
+        b' ' | b'\n' | b'#' => line,
+        b':' => begin(image),
+        b'L' | b'I' => lists::play(image, line, text),
+        b'S' | b'K' => note(line, kept::is_kept(image, store, c == b'S')),
+        b'Z' => zeros(line),
+        _ => events(image, line, session::calls_at(text)),
     }
 }
 
@@ -61,62 +51,37 @@ fn note(line: Line, right: bool) -> Line {
     let tag = line.tag;
     Line {
         tag,
-        right: line.right && right,
+        right: line.right & right,
     }
 }
 
-// One event, whose answer must have this number.
-fn event(image: &mut [u8], line: Line, code: u8, reading: u16, number: u8) -> Line {
-    let before = line.tag;
-    let answered = tag::event(image, before, code, reading);
-    let tag = answered.tag;
-    let answer = answered.answer;
+// The record of all zeros.
+fn zeros(line: Line) -> Line {
+    let tag = record::fresh(0, 0);
     Line {
         tag,
-        right: line.right && answer::number(answer) == number,
+        right: line.right,
     }
 }
 
-// A slot or a reset, which must leave this bit on the line.
-fn slot(image: &mut [u8], line: Line, code: u8, bit: bool) -> Line {
-    let before = line.tag;
-    let answered = tag::event(image, before, code, 0);
-    let tag = answered.tag;
-    Line {
-        tag,
-        right: line.right && answered.line == bit,
+// Gives the tag event after event. Each must be answered so, and leave its bit on the line; a refusal leaves 1.
+fn events(image: &mut [u8], line: Line, calls: Calls) -> Line {
+    let mut tag = line.tag;
+    let mut right = line.right;
+    let count = calls.count;
+    for i in 0..count {
+        let bit = bits::bit(calls.bits as u64, (i % 8) as u8);
+        let answered = tag::event(image, tag, code(calls.code, bit), calls.reading);
+        tag = answered.tag;
+        let answer = answered.answer;
+        right = right
+            & (answer::number(answer) == calls.number)
+            & (answered.line == (bit | (calls.number > 0)));
     }
+    Line { tag, right }
 }
 
-// A byte, low bit first: read and expected, or sent to a tag that listens.
-fn byte(image: &mut [u8], line: Line, byte: u8, is_read: bool) -> Line {
-    let mut now = line;
-    for i in 0..8 {
-        let bit = bits::bit(byte as u64, i);
-        now = slot(image, now, master(bit, is_read), bit);
-    }
-    now
-}
-
-// The event code of the master's slot: it releases the line to read, and to send a 1.
-fn master(bit: bool, is_read: bool) -> u8 {
-    if bit || is_read { 1 } else { 0 }
-}
-
-// The same byte, `count` times.
-fn bytes(image: &mut [u8], line: Line, value: u8, is_read: bool, count: u8) -> Line {
-    let mut now = line;
-    for _ in 0..count {
-        now = byte(image, now, value, is_read);
-    }
-    now
-}
-
-// `count` ticks with the same reading.
-fn ticks(image: &mut [u8], line: Line, reading: u16, count: u16) -> Line {
-    let mut now = line;
-    for _ in 0..count {
-        now = event(image, now, 3, reading, 0);
-    }
-    now
+// The master releases the line to send a 1.
+fn code(code: u8, bit: bool) -> u8 {
+    if bit & (code == 0) { 1 } else { code }
 }

@@ -1,10 +1,15 @@
-// The points of document 01 that are run and compared. Standard input has them: a name, and a session that is played to a new tag.
-// For each, a line says whether all of it came as expected. The published CRC examples come first.
+// The points of document 01 and of the change requests that are run and compared. Standard input has them: a name, and a session
+// that is played to a new tag. For each, a line says whether all of it came as expected. The published CRC examples come first.
+// Tests are joined by & where nothing has to follow from the first: && is a branch, and each branch makes the check longer.
+use image::peek;
 use libc::STDIN_FILENO;
 use libc::STDOUT_FILENO;
+use session::NAME;
+use session::PART;
 
 mod kept;
 mod line;
+mod lists;
 mod session;
 
 fn main() {
@@ -30,26 +35,46 @@ fn crc_points() {
     point(b"CRC-16 of the digits 1 to 9 is BB3D", digits == 0xBB3D);
     point(
         b"it is sent as C2 44",
-        crc::sent_low(digits) == 0xC2 && crc::sent_high(digits) == 0x44,
+        (crc::sent_low(digits) == 0xC2) & (crc::sent_high(digits) == 0x44),
     );
 }
 
 fn point(name: &[u8], right: bool) {
     io::write_all(STDOUT_FILENO, name);
-    line::verdict(right);
+    verdict(right);
 }
 
-// Plays the sessions character by character, each to a new tag.
+fn verdict(right: bool) {
+    if right {
+        io::write_all(STDOUT_FILENO, b": ok\n");
+    } else {
+        io::write_all(STDOUT_FILENO, b": WRONG\n");
+    }
+}
+
+// Plays the sessions, each to a new tag. A part is performed at its first character; the others are passed over.
 fn run(input: &[u8], image: &mut [u8], store: &mut [u8]) {
     let mut line = line::begin(image);
-    let mut session = session::new();
+    let mut any = false;
+    let mut reads = PART;
     for i in 0..input.len() {
-        let read = session::read(session, input[i]);
-        session = read.session;
-        let act = read.act;
-        line = line::perform(image, store, line, act);
+        let text = &input[i..];
+        print(peek(text, 0), reads, any, line.right);
+        line = line::perform(image, store, line, text, reads);
+        reads = session::after(reads, text);
+        any = any | (reads == NAME);
     }
-    if session.any {
-        line::verdict(line.right && session.wanted == 0);
+    if any {
+        verdict(line.right);
+    }
+}
+
+// Prints a character of a point's name. Where a point begins, the one before is judged.
+fn print(c: u8, reads: u8, any: bool, right: bool) {
+    if (reads == NAME) & (c != b'\n') {
+        io::write_all(STDOUT_FILENO, &[c]);
+    }
+    if (reads == PART) & (c == b':') & any {
+        verdict(right);
     }
 }

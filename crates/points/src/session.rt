@@ -1,198 +1,149 @@
-// A session as text, read character by character; what is to be done goes to the line as an Act. Spaces between the parts count for
-// nothing.
+// A session as text, part by part, and the calls that a part asks for. Numbers are hexadecimal. Spaces between parts count for
+// nothing; a part's own characters stand together.
 //   :           a point begins, with a new tag; its name is the rest of the line
 //   #           the rest of the line is a comment
 //   R           a reset, which the tag answers
 //   HH          a byte is sent
 //   =HH         a byte is read, and is this one
-//   XHH         the last byte again, so that there are HH in all
-//   + -         a slot with the line released, held low
+//   XHH         right behind a byte: there are HH of it in all
+//   + -         a slot with the line released, held low; the tag sends no 0
 //   ?D          a slot with the line released, which reads this bit
 //   TRRRRCCCC   CCCC ticks with the reading RRRR
-//   !CCRRRRNN   an event of code CC and reading RRRR, which is answered with NN
+//   !CCRRRRNN   an event of code CC and reading RRRR, which is answered with NN; in a slot the tag sends no 0
+//   LWWRRNNDD HHHH.. = HH..
+//               a list of the WW words HHHH.. in one call, with RR reply bytes lent that hold 77h: it is answered with NN, DD words
+//               are done, and the reply bytes are HH.. then; the rest of the line is the list's
+//   I ..        the same with an image of one byte less
+//   Z           the record becomes that of all zeros
 //   S           the image is remembered
 //   K           the image is as remembered but for the clock
+use image::peek;
 
-// What is read: a session, a point's name, a comment.
-const SESSION: u8 = 0;
+// How a character is read: as the first of a part; as another one of it, by how many are left, 8 to 1; as one of a name; as one of a
+// line that is passed over.
+pub const PART: u8 = 0;
 
-const NAME: u8 = 1;
+pub const NAME: u8 = 9;
 
-const COMMENT: u8 = 2;
+pub const LINE: u8 = 10;
 
-// What a character asks for.
-pub enum Act {
-    Nothing,
-    // A character of a point's name is printed.
-    Print(u8),
-    // The point before is judged, if there is one; whether it has all its digits. A new tag comes.
-    Begin(bool, bool),
-    // A byte is sent, or read and compared, so many times.
-    Bytes(u8, bool, u8),
-    // An event of this code leaves this bit on the line.
-    Slot(u8, bool),
-    // An event of this code and reading is answered with this number.
-    Event(u8, u16, u8),
-    // This reading, so many times.
-    Ticks(u16, u16),
-    Remember,
-    Kept,
-    // This is no session.
-    Wrong,
+// Events that are alike but for their line bits, which are those of `bits`, low bit first, again and again. Code 0 sends them.
+pub struct Calls {
+    pub code: u8,
+    pub reading: u16,
+    pub bits: u8,
+    // The number of each one's answer.
+    pub number: u8,
+    pub count: u16,
 }
 
-pub struct Session {
-    reads: u8,
-    // Whether a point has begun.
-    pub any: bool,
-    // The part under way, by its first character, how many digits it still wants, and the number that those so far are.
-    part: u8,
-    pub wanted: u8,
-    value: u32,
-    // The last byte, and whether it was read.
-    byte: u8,
-    is_read: bool,
-}
-
-pub struct Asked {
-    pub session: Session,
-    pub act: Act,
-}
-
-pub(crate) fn new() -> Session {
-    Session {
-        reads: SESSION,
-        any: false,
-        part: 0,
-        wanted: 0,
-        value: 0,
-        byte: 0,
-        is_read: false,
-    }
-}
-
-// The next character.
-pub(crate) fn read(session: Session, c: u8) -> Asked {
+// How the character behind the text's first one is read.
+pub(crate) fn after(reads: u8, text: &[u8]) -> u8 {
+    let c = peek(text, 0);
     if c == b'\n' {
-        return reading(session, SESSION);
+        return PART;
     }
-    if session.reads == NAME {
-        return asks(session, Act::Print(c));
+    if reads >= NAME {
+        return reads;
     }
-    if session.reads == COMMENT {
-        return asks(session, Act::Nothing);
-    }
-    match c {
-        b' ' => asks(session, Act::Nothing),
-        b'#' => reading(session, COMMENT),
-        b':' => begin(session),
-        b'0'..=b'9' => digit(session, c - b'0'),
-        b'A'..=b'F' => digit(session, c - b'A' + 10),
-        _ => part(session, c),
-    }
-}
-
-fn asks(session: Session, act: Act) -> Asked {
-    Asked { session, act }
-}
-
-fn reading(session: Session, reads: u8) -> Asked {
-    let mut next = session;
-    next.reads = reads;
-    asks(next, Act::Nothing)
-}
-
-fn begin(session: Session) -> Asked {
-    let mut next = new();
-    next.reads = NAME;
-    next.any = true;
-    asks(next, Act::Begin(session.any, session.wanted == 0))
-}
-
-// A part begins, and is done at once if it has no digits. It is wrong to begin one inside another.
-fn part(session: Session, c: u8) -> Asked {
-    if session.wanted > 0 {
-        return done(session, Act::Wrong);
+    if reads > 0 {
+        return reads - 1;
     }
     match c {
-        b'=' | b'X' => wants(session, c, 2),
-        b'?' => wants(session, c, 1),
-        b'T' | b'!' => wants(session, c, 8),
-        b'R' => done(session, Act::Slot(2, false)),
-        b'+' => done(session, Act::Event(1, 0, 0)),
-        b'-' => done(session, Act::Event(0, 0, 0)),
-        b'S' => done(session, Act::Remember),
-        b'K' => done(session, Act::Kept),
-        _ => done(session, Act::Wrong),
-    }
-}
-
-fn wants(session: Session, part: u8, wanted: u8) -> Asked {
-    let mut next = session;
-    next.part = part;
-    next.wanted = wanted;
-    next.value = 0;
-    asks(next, Act::Nothing)
-}
-
-// A part is whole, and this is to be done.
-fn done(session: Session, act: Act) -> Asked {
-    let mut next = session;
-    next.part = 0;
-    next.wanted = 0;
-    next.value = 0;
-    asks(next, act)
-}
-
-// One more digit. With no part under way it begins a byte that is sent.
-fn digit(session: Session, d: u8) -> Asked {
-    if session.wanted == 0 {
-        let mut next = session;
-        next.wanted = 1;
-        next.value = d as u32;
-        return asks(next, Act::Nothing);
-    }
-    let mut next = session;
-    next.wanted = session.wanted - 1;
-    next.value = session.value % 0x10000000 * 16 + (d % 16) as u32;
-    if next.wanted > 0 {
-        return asks(next, Act::Nothing);
-    }
-    whole(next)
-}
-
-// A part has all its digits.
-fn whole(session: Session) -> Asked {
-    let value = session.value;
-    let low = (value % 256) as u8;
-    let part = session.part;
-    match part {
-        0 => byte(session, low, false),
-        b'=' => byte(session, low, true),
-        b'X' => done(
-            session,
-            Act::Bytes(session.byte, session.is_read, less_one(low)),
-        ),
-        b'?' => done(session, Act::Slot(1, value % 16 == 1)),
-        b'T' => done(
-            session,
-            Act::Ticks((value / 65536) as u16, (value % 65536) as u16),
-        ),
+        b':' => NAME,
+        b'#' | b'L' | b'I' => LINE,
+        b'T' | b'!' => 8,
+        b'=' => to_end(text, 2),
+        b'?' => 1,
         _ => {
-            let code = (value / 0x1000000) as u8;
-            let reading = (value / 256 % 65536) as u16;
-            done(session, Act::Event(code, reading, low))
+            if digit(c) > 15 {
+                return PART;
+            }
+            to_end(text, 1)
         }
     }
 }
 
-fn byte(session: Session, byte: u8, is_read: bool) -> Asked {
-    let mut next = session;
-    next.byte = byte;
-    next.is_read = is_read;
-    done(next, Act::Bytes(byte, is_read, 1))
+// How many characters a byte has behind its first one: its digits, and an X with its own.
+fn to_end(text: &[u8], digits: u8) -> u8 {
+    if peek(text, digits as usize + 1) == b'X' {
+        digits % 8 + 3
+    } else {
+        digits
+    }
 }
 
-fn less_one(count: u8) -> u8 {
-    if count > 0 { count - 1 } else { 0 }
+// The calls of the part that the text begins with.
+pub(crate) fn calls_at(text: &[u8]) -> Calls {
+    let c = peek(text, 0);
+    match c {
+        b'R' => alike(2, 0, 0, 0, 1),
+        b'=' => alike(1, 0, number(text, 1, 2), 0, slots(text, 3)),
+        b'+' => alike(1, 0, 1, 0, 1),
+        b'-' => alike(0, 0, 0, 0, 1),
+        b'?' => alike(1, 0, number(text, 1, 1), 0, 1),
+        b'T' => {
+            let n = number(text, 1, 8);
+            alike(3, n / 65536, 0xFF, 0, n % 65536)
+        }
+        b'!' => {
+            let n = number(text, 1, 8);
+            alike(
+                n / 0x1000000,
+                n / 256 % 65536,
+                n / 0x1000000 % 2,
+                n % 256,
+                1,
+            )
+        }
+        _ => alike(0, 0, number(text, 0, 2), 0, slots(text, 2)),
+    }
+}
+
+// Calls with these numbers; where a digit was missing, one event with an answer that there is not.
+fn alike(code: u64, reading: u64, bits: u64, number: u64, count: u64) -> Calls {
+    if (code > 0xFF) | (reading > 0xFFFF) | (bits > 0xFF) | (count > 0xFFFF) {
+        return Calls {
+            code: 0xFF,
+            reading: 0,
+            bits: 0,
+            number: 0xFF,
+            count: 1,
+        };
+    }
+    Calls {
+        code: (code % 256) as u8,
+        reading: (reading % 65536) as u16,
+        bits: (bits % 256) as u8,
+        number: (number % 256) as u8,
+        count: (count % 65536) as u16,
+    }
+}
+
+// The slots of a byte whose digits end before `at`: eight, or eight times the number of an X there.
+fn slots(text: &[u8], at: u8) -> u64 {
+    if peek(text, at as usize) == b'X' {
+        8 * (number(text, at as u16 + 1, 2) % 0x1000000000000000)
+    } else {
+        8
+    }
+}
+
+// The number that the digits at `at` are, eight at most. Where one is missing, it is above what eight digits can be.
+pub(crate) fn number(text: &[u8], at: u16, digits: u8) -> u64 {
+    let mut value = 0;
+    for i in 0..digits {
+        let c = peek(text, at as usize + i as usize);
+        value = value % 0x400000000000000 * 16 + digit(c) % 0x400000000;
+    }
+    value
+}
+
+// What a digit stands for. Any other character is worth so much that its number stays above eight digits.
+fn digit(c: u8) -> u64 {
+    match c {
+        b'0'..=b'9' => (c - b'0') as u64,
+        b'A'..=b'F' => (c - b'A' + 10) as u64,
+        _ => 0x200000000,
+    }
 }

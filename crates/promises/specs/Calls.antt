@@ -1,19 +1,24 @@
--- Calls of `tag::new` and `tag::event` one after the other, as their own contracts have them: they lead to reached states, and the caller
--- sees the line bits and gets the state that `run` gives. So what is said of `run`, demands 2 and 3 too, is said of the code. `calls` in
+-- Calls of `tag::new`, `tag::event` and `batch::events` one after the other, as their own contracts have them: they lead to reached states,
+-- and the caller sees the line bits and gets the state that `run` gives. So what is said of `run`, demands 2 and 3 too, is said of the code. `calls` in
 -- Calls/Proof.antt proves it. Assumes nothing.
 use mathlib.Core.Path.{_≡_}
 use mathlib.Core.Bool.{Bool, true, false, _&&_}
-use mathlib.Core.List.{List, [], _∷_}
-use Prim.Native.Nat.{ℕ}
+use mathlib.Core.List.{List, [], _∷_, _++_, map}
+use Prim.Native.Nat.{ℕ, _≤_, _<_}
 use lib.Dec.{eqb, leb}
 use lib.IntN.{ℤ}
+use lib.ListN.{length, take}
 use denote.Ref.{now}
 use Rattle.answer.specs.Answer.{answerNumber}
+use Rattle.batch.specs.declared.Batch.{Batch}
+use Rattle.batch.proofs.events.Reads as list
+use Rattle.bits.specs.Bits.{digit}
 use Rattle.bits.specs.Choose.{if_then_else_}
 use Rattle.dump.specs.Dump.{dumpOf}
 use Rattle.record.specs.declared.Answered.{Answered}
 use Rattle.tag.proofs.event.Reads as event
 use Rattle.tag.proofs.new.Reads as new
+use Rattle.promises.specs.Batches.{eventsOf}
 use Rattle.promises.specs.Demand2.{Lists}
 use Rattle.promises.specs.Demand2.AtStart.{settingsOf}
 use Rattle.promises.specs.Demand2.Events.{Starts, Spares, missionTicks}
@@ -33,6 +38,14 @@ pub data Made : State → Type 2 where
 pub data Called (s : State) (code reading : ℕ) : Bool → State → Type 2 where
   called : (κs : _) (image : _) (r : Answered) (exit : _) → event.Post κs (image, (s .tag, (code, (reading, tt)))) r exit →
       now image ≡ s .image → Called s code reading (r .line) (record { image = now (exit .0); tag = r .tag })
+
+-- `batch::events` met its contract: from one state, with these words and so many reply bytes, it left these bits in the bytes of the words
+-- that were done, and the other state
+pub data Handed (s : State) (words : List ℕ) : ℕ → List Bool → State → Type 2 where
+  handed : (κs : _) (image : _) (lent : _) (replies : _) (r : Batch) (exit : _) (bits : List Bool) →
+      list.Post κs (image, (s .tag, (lent, (replies, tt)))) r exit → now image ≡ s .image → now lent ≡ words →
+      take (r .done) (now (exit .1 .1 .1 .0)) ≡ map digit bits →
+      Handed s words (length (now replies)) bits (record { image = now (exit .0); tag = r .tag })
 
 -- ---- one after the other
 
@@ -57,6 +70,11 @@ pub data Chain : State → List Event → List Bool → State → Type 2 where
       meaningOf code reading ≡ Meaning.taken e → Called s code reading bit t → Chain t es bits u → Chain s (e ∷ es) (bit ∷ bits) u
   refused : {s t u : State} {es : List Event} {bit : Bool} {bits : List Bool} (code reading : ℕ) →
       meaningOf code reading ≡ Meaning.refused → Called s code reading bit t → Chain t es bits u → Chain s es bits u
+  -- a list gives all its events up to a refused word; one with too few reply bytes is refused whole
+  many : {s t u : State} {es : List Event} {room : ℕ} {seen bits : List Bool} (words : List ℕ) → length words ≤ room →
+      Handed s words room seen t → Chain t es bits u → Chain s (eventsOf words ++ es) (seen ++ bits) u
+  few : {s t u : State} {es : List Event} {room : ℕ} {seen bits : List Bool} (words : List ℕ) → room < length words →
+      Handed s words room seen t → Chain t es bits u → Chain s es bits u
 
 -- ---- what holds of them
 
@@ -64,6 +82,7 @@ pub record Calls : Type 2 where
   -- "tags reached from a new one by events": whatever code and reading come, refused ones too, the state is a reached one again
   pub made : {s : State} → Made s → Reached s
   pub again : {s t : State} {code reading : ℕ} {bit : Bool} → Reached s → Called s code reading bit t → Reached t
+  pub listed : {s t : State} {words : List ℕ} {room : ℕ} {bits : List Bool} → Reached s → Handed s words room bits t → Reached t
   -- a refused call gives 1 and changes nothing
   pub refused : {s t : State} {code reading : ℕ} {bit : Bool} → Reached s → meaningOf code reading ≡ Meaning.refused →
       Called s code reading bit t → (bit ≡ true) × (t ≡ s)

@@ -17,6 +17,7 @@ use Rattle.mission.proofs as mission
 use Rattle.record.proofs as tag-record
 use Rattle.event.proofs as event
 use Rattle.tag.proofs as tag
+use Rattle.batch.proofs as batch
 use Rattle.hex.proofs as hex
 use Rattle.dump.proofs as dump
 use Rattle.dock.proofs as dock
@@ -126,6 +127,8 @@ pub record Determinacy : Type 2 where
   -- tag
   pub tag-new : Sole tag.new.Reads.Post (λ k r e. with r (now (e .0)))
   pub tag-event : Sole tag.event.Reads.Post (λ k r e. with r (now (e .0)))
+  -- batch
+  pub batch-events : Sole batch.events.Reads.Post (λ k r e. with r (with (now (e .0)) (now (e .1 .1 .1 .0))))
   -- hex
   pub hex-pair-at : Sole hex.pair_at.Reads.Post (λ k r e. r)
   pub hex-nibble : Sole hex.nibble.Reads.Post (λ k r e. r)
@@ -143,7 +146,7 @@ pub record Determinacy : Type 2 where
   pub text-put-head : Sole text.put_head.Reads.Post (λ k r e. with r (now (e .0)))
   pub text-put-entries : Sole text.put_entries.Reads.Post (λ k r e. with r (now (e .0)))
 
--- ---- each contract is one equation, or a pair of them
+-- ---- each contract is one equation for each thing that a caller sees
 
 pair {α β} : {A : Type α} {B : Type β} {a b : A} {c d : B} → a ≡ b → c ≡ d → with a c ≡ with b d
 pair p q i = (p i, q i)
@@ -229,6 +232,7 @@ determinacy =
       event-tick = λ k a r s e f p q. pair (p .0 ∙ sym (q .0)) (p .1 ∙ sym (q .1));
       tag-new = λ k a r s e f p q. pair (p .0 ∙ sym (q .0)) (p .1 ∙ sym (q .1));
       tag-event = λ k a r s e f p q. pair (p .0 ∙ sym (q .0)) (p .1 ∙ sym (q .1));
+      batch-events = λ k a r s e f p q. pair (p .0 ∙ sym (q .0)) (pair (p .1 .0 ∙ sym (q .1 .0)) (p .1 .1 ∙ sym (q .1 .1)));
       hex-pair-at = λ k a r s e f p q. p ∙ sym q;
       hex-nibble = λ k a r s e f p q. p ∙ sym q;
       hex-put-hex = λ k a r s e f p q. p ∙ sym q;

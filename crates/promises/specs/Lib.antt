@@ -6,6 +6,7 @@ pub mod History
 pub mod Demand2
 pub mod Demand3
 pub mod Calls
+pub mod Batches
 pub mod Line
 pub mod Determinacy
 pub mod Points

@@ -1,20 +1,28 @@
 -- One call is one event, or is refused; calls one after the other are a run. Assumes nothing.
 use mathlib.Core.Path.{_≡_, refl, sym, ap, subst, _∙_}
 use mathlib.Core.Bool.{Bool, true, false, _&&_}
-use mathlib.Core.List.{List, _∷_}
-use Prim.Native.Nat.{ℕ}
+use mathlib.Core.List.{List, [], _∷_, _++_, map}
+use mathlib.Core.Logic.{dite}
+use Prim.Native.Nat.{ℕ, suc, _≤_, _<_}
+use native.Mathlib.Decide.{decLe}
 use native.Mathlib.Omega.{arith}
-use borrow.Author.Tests.{eqb-true, eqb-false, leb-true, leb-false}
+use borrow.Author.Tests.{eqb-true, eqb-false, leb-true, leb-false, lt-ltb}
 use lib.Dec.{eqb, leb}
+use lib.ListN.{length, getD, take, drop, length-map}
+use lib.Seq.{take-at}
 use denote.Ref.{now}
 use Rattle.answer.specs.Answer.Laws.{accepted-is}
+use Rattle.bits.specs.Bits.{digit}
 use Rattle.bits.specs.Choose.{if_then_else_}
 use Rattle.dump.specs.Dump.{dumpOf}
 use Rattle.record.specs.declared.Answered.{Answered}
 use Rattle.record.specs.Record.{Outcome}
 use Rattle.tag.specs.Tag.{eventOf, step}
 use Rattle.tag.specs.Tag.Laws.{step-taken, event-tick, event-reading, event-other}
-use Rattle.promises.specs.Calls.{Made, Called, Meaning, meaningOf, Chain, Calls}
+use Rattle.promises.specs.Batches.{eventsOf, askedNumber}
+use Rattle.promises.specs.Batches.Words.{line-length, asked-none}
+use Rattle.promises.specs.Batches.Proof.{batches}
+use Rattle.promises.specs.Calls.{Made, Called, Handed, Meaning, meaningOf, Chain, Calls}
 use Rattle.promises.specs.Demand2.{Lists, demand2}
 use Rattle.promises.specs.Demand2.AtStart.{settingsOf}
 use Rattle.promises.specs.Demand2.Events.{missionTicks}
@@ -22,7 +30,7 @@ use Rattle.promises.specs.Demand3.{JustReset}
 use Rattle.promises.specs.Demand3.Proof.{demand3}
 use Rattle.promises.specs.History
 use Rattle.promises.specs.Runs.{State, Event, leaves, happens, after, lineBit, Ran, run, Reached}
-use Rattle.promises.specs.Runs.Laws.{Sound, reached-sound, slot-happens, reset-happens, tick-happens, reached-after}
+use Rattle.promises.specs.Runs.Laws.{Sound, reached-sound, slot-happens, reset-happens, tick-happens, run-append, reached-after, reached-run}
 
 -- ---- one call, by what it is taken for
 
@@ -91,6 +99,52 @@ module _ {s t : State} {code reading : ℕ} {bit : Bool} (reached : Reached s) (
       by (Meaning.taken e) m = subst Reached (sym (call-taken m .1)) (reached-after reached e)
       by Meaning.refused m = subst Reached (sym (call-refused m .1)) reached
 
+-- ---- a list
+
+-- bits that give the same bytes are the same
+digit-injective : (a b : Bool) → digit a ≡ digit b → a ≡ b
+digit-injective true true e = refl
+digit-injective true false e = absurd (omega arith)
+digit-injective false true e = absurd (omega arith)
+digit-injective false false e = refl
+
+digits-injective : (bits others : List Bool) → map digit bits ≡ map digit others → bits ≡ others
+digits-injective [] [] e = refl
+digits-injective [] (b ∷ others) e = let none : 0 ≡ suc (length (map digit others)) = ap length e in absurd (omega arith)
+digits-injective (a ∷ bits) [] e = let none : suc (length (map digit bits)) ≡ 0 = ap length e in absurd (omega arith)
+digits-injective (a ∷ bits) (b ∷ others) e =
+    let first : a ≡ b = digit-injective a b (ap (λ (l : List ℕ). getD l 0 0) e) in
+    let rest : bits ≡ others = digits-injective bits others (ap (drop 1) e) in
+    λ i. first i ∷ rest i
+
+-- one with room for its replies is a run of its events
+list-taken : {s t : State} {words : List ℕ} {room : ℕ} {bits : List Bool} → Reached s → Handed s words room bits t →
+    length words ≤ room → run s (eventsOf words) ≡ record { line = bits; state = t }
+list-taken {s} {words = words} reached (Handed.handed κs image lent replies r exit bits p e f seen) h =
+    let left = rw (e, f) at (batches .lists κs image (s .tag) lent replies r exit p .1) in
+    let asked = asked-none (reached-sound reached) words (now replies) h in
+    let same = left .same asked in
+    let line = run s (eventsOf words) .line in
+    let first : take (length (eventsOf words)) (now (exit .1 .1 .1 .0)) ≡ map digit line =
+    rw (left .bits asked) (take-at (map digit line) _ (length (eventsOf words)) (length-map line digit ∙ line-length s (eventsOf words))) in
+    let told = digits-injective line bits (sym first ∙ ap (λ (n : ℕ). take n (now (exit .1 .1 .1 .0))) (sym (same .2)) ∙ seen) in
+    λ i. record { line = told i; state = record { image = sym (same .1) i; tag = sym (same .0) i } }
+
+-- one without leaves everything
+list-few : {s t : State} {words : List ℕ} {room : ℕ} {bits : List Bool} → Handed s words room bits t → room < length words → t ≡ s
+unfolding askedNumber
+list-few {s} {words = words} (Handed.handed κs image lent replies r exit bits p e f seen) h =
+    let left = rw (e, f) at (batches .lists κs image (s .tag) lent replies r exit p .1) in
+    let asked : askedNumber (s .image) (s .tag) words (now replies) ≡ 17 = rw (lt-ltb (length (now replies)) (length words) h) in
+    let all = left .refused (λ none. absurd (omega (arith, asked, none))) in
+    λ i. record { image = all .2 i; tag = all .0 i }
+
+list-again : {s t : State} {words : List ℕ} {room : ℕ} {bits : List Bool} → Reached s → Handed s words room bits t → Reached t
+list-again {words = words} {room = room} reached call =
+    dite (decLe (length words) room)
+    (λ h. subst Reached (ap (λ (r : Ran). r .state) (list-taken reached call h)) (reached-run (eventsOf words) reached))
+    (λ few. subst Reached (sym (list-few call (omega (arith, few)))) reached)
+
 -- ---- all together
 
 made-reached : {s : State} → Made s → Reached s
@@ -108,6 +162,12 @@ chain-run {s} reached (Chain.taken {es = es} code reading m call rest) =
     λ i. record { line = sym (given .0) i ∷ after i .line; state = after i .state }
 chain-run {s} reached (Chain.refused {es = es} code reading m call rest) =
     ap (λ (u : State). run u es) (sym (call-refused reached call m .1)) ∙ chain-run (call-again reached call) rest
+chain-run {s} reached (Chain.many {es = es} words h call rest) =
+    let first = list-taken reached call h in
+    let after = ap (λ (r : Ran). run (r .state) es) first ∙ chain-run (list-again reached call) rest in
+    run-append s (eventsOf words) es ∙ (λ i. record { line = first i .line ++ after i .line; state = after i .state })
+chain-run reached (Chain.few {es = es} words h call rest) =
+    ap (λ (u : State). run u es) (sym (list-few call h)) ∙ chain-run (list-again reached call) rest
 
 reset-reached : {s : State} → JustReset s → Reached s
 reset-reached r = subst Reached (sym (r .reset)) (reached-after (r .reached) Event.reset)
@@ -117,6 +177,7 @@ calls =
     record {
       made = made-reached;
       again = call-again;
+      listed = list-again;
       refused = λ reached m call. call-refused reached call m;
       taken = chain-run;
       listing = λ {s} {end} {e} {events} {bits} lent reached starts spares chain.

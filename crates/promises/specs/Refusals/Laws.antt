@@ -30,12 +30,17 @@ use Rattle.tag.specs.Tag.Laws.{eventAnswer, stepAnswer, newAnswer, step-answer,
 use Rattle.promises.specs.Refusals.{isRom, isConfiguration, newNumber, clearTag, keepsRanges, ownNumber, eventNumber, firstOf, isDigit, areDigits, isLine, hasCrc, lineNumber, linesNumber, entries, held, cannotBe, contentNumber, dumpNumber}
 
 -- the number of an answer that is chosen is chosen by the same test
-numbered : (test : Bool) (a b : Answer) {m n : ℕ} → answerNumber a ≡ m → answerNumber b ≡ n →
+pub numbered : (test : Bool) (a b : Answer) {m n : ℕ} → answerNumber a ≡ m → answerNumber b ≡ n →
     answerNumber (if test then a else b) ≡ (if test then m else n)
 numbered true a b p q = p
 numbered false a b p q = q
 
 -- ---- events and new tags
+
+-- 6 is asked by the ranges of the record
+pub keeps-ranges : (tag : Tag) → keepsRanges tag ≡ tagInRange tag
+unfolding tagInRange goodNumber goodCode goodCrc countersInRange
+keeps-ranges tag = refl
 
 pub own-number : (code reading : ℕ) → answerNumber (eventAnswer code reading) ≡ ownNumber code reading
 unfolding eventAnswer ownNumber

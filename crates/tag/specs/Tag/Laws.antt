@@ -1,6 +1,6 @@
 -- What every call of the tag answers and leaves: the image's length, the record's ranges, and after a refusal all that it was
 -- given. Assumes nothing.
-use mathlib.Core.Path.{_≡_, refl, ap, _∙_}
+use mathlib.Core.Path.{_≡_, refl, _∙_}
 use mathlib.Core.Bool.{Bool, true, false, not, _&&_}
 use mathlib.Core.List.{List}
 use mathlib.Core.Logic.{_≢_}
@@ -9,7 +9,7 @@ use native.Mathlib.Omega.{arith}
 use borrow.Author.Tests.{eq-eqb, ne-eqb, eqb-true, eqb-false, ltb-false, lt-ltb, le-ltb}
 use lib.Dec.{eqb, ltb}
 use lib.ListN.{length, replicate, length-set, length-replicate}
-use Rattle.answer.specs.Answer.{answerNumber}
+use Rattle.answer.specs.Answer.Laws.{not-accepted}
 use Rattle.answer.specs.declared.Answer.{Answer}
 use Rattle.bits.specs.Choose.{if_then_else_}
 use Rattle.event.specs.Event.{slotted, resetTag, tickTag}
@@ -33,10 +33,6 @@ stepAnswer image tag code reading =
     if not (eqb (length image) 8832) then Answer.ImageLength
     else if not (tagInRange tag) then Answer.RecordRange
     else eventAnswer code reading
-
--- a number other than 0 is a refusal's
-not-accepted : (answer : Answer) → 0 < answerNumber answer → answer ≢ Answer.Accepted
-not-accepted answer h e = let none : answerNumber answer ≡ 0 = ap answerNumber e in omega arith
 
 -- what holds of a slot, a reset, a tick with a reading and the two refusals holds of every event, with its own answer
 event-cases : (P : Outcome → Answer → Type 0) (image : List ℕ) (tag : Tag) (code reading : ℕ) →
