@@ -12,6 +12,7 @@ use denote.Ref.{now}
 use Rattle.answer.specs.Answer.{answerNumber}
 use Rattle.batch.specs.declared.Batch.{Batch}
 use Rattle.batch.specs.Batch.{Listed, listed}
+use Rattle.batch.specs.Batch.Cuts.{joined}
 use Rattle.batch.proofs.events.Reads as call
 use Rattle.bits.specs.Bits.{digit}
 use Rattle.bits.specs.Choose.{if_then_else_}
@@ -79,18 +80,8 @@ pub record Leaves (image : List ℕ) (tag : Tag) (words replies : List ℕ) (l :
   -- and there are as many reply bytes as there were
   pub size : length (l .replies) ≡ length replies
 
--- two lists one after the other, as one
-abbrev pub joined : Listed → Listed → Listed
-joined first rest =
-    record {
-      batch = record {
-        answer = rest .batch .answer;
-        tag = rest .batch .tag;
-        done = first .batch .done + rest .batch .done;
-      };
-      image = rest .image;
-      replies = first .replies ++ rest .replies;
-    }
+-- `joined` is two lists one after the other, as one: answer, record and image of the second, both numbers done added up, and the replies
+-- of the second behind those of the first
 
 -- lists with their reply bytes, and a last one, each on what the one before it left
 unfoldable pub inTurn : List ℕ → Tag → List (List ℕ × List ℕ) → List ℕ → List ℕ → Listed

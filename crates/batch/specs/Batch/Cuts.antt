@@ -95,8 +95,8 @@ accepted-list image tag words replies =
     (λ room whole broken e. absurd (not-accepted Answer.RecordRange (omega arith) e))
     (λ room whole inRange e. (room, whole, inRange, e))
 
--- two lists one after the other, as one
-abbrev joined : Listed → Listed → Listed
+-- two lists one after the other, as one: the numbers done add up, and the replies stand one behind the other
+abbrev pub joined : Listed → Listed → Listed
 joined first rest =
     record {
       batch = returned (rest .batch .answer) (rest .batch .tag) (first .batch .done + rest .batch .done);

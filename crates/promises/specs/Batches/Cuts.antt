@@ -11,15 +11,15 @@ use Rattle.answer.specs.Answer.{answerNumber}
 use Rattle.answer.specs.Answer.Laws.{accepted-is}
 use Rattle.batch.specs.Batch.{Course, Listed, replied, listed}
 use Rattle.batch.specs.Batch.Laws.{list-few, list-taken}
-use Rattle.batch.specs.Batch.Cuts.{course-length, course-in-range, list-append}
+use Rattle.batch.specs.Batch.Cuts.{joined, course-length, course-in-range, list-append}
 use Rattle.bits.specs.Bits.{digit}
 use Rattle.event.specs.Event.{resetTag}
 use Rattle.record.specs.declared.Tag.{Tag}
 use Rattle.record.specs.Record.{Outcome}
-use Rattle.promises.specs.Batches.{isRefused, eventOf, eventsOf, joined, inTurn, wordsIn, repliesIn, Whole, Differs}
-use Rattle.promises.specs.Batches.Words.{course-run, line-length}
+use Rattle.promises.specs.Batches.{isRefused, eventOf, eventsOf, inTurn, wordsIn, repliesIn, Whole, Differs}
+use Rattle.promises.specs.Batches.Words.{course-run}
 use Rattle.promises.specs.Runs.{State, after, run}
-use Rattle.promises.specs.Runs.Laws.{Sound, reset-happens}
+use Rattle.promises.specs.Runs.Laws.{line-length, Sound, reset-happens}
 
 -- ---- two lists, and any number
 

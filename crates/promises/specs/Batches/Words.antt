@@ -25,7 +25,7 @@ use Rattle.promises.specs.Batches.{isRefused, eventOf, eventsOf, askedNu
 use Rattle.promises.specs.Refusals.{firstOf}
 use Rattle.promises.specs.Refusals.Laws.{numbered, keeps-ranges}
 use Rattle.promises.specs.Runs.{State, Event, Accepts, after, happens, run, Always}
-use Rattle.promises.specs.Runs.Laws.{Sound, Valid, sound-accepts, sound-after}
+use Rattle.promises.specs.Runs.Laws.{line-length, Sound, Valid, sound-accepts, sound-after}
 
 -- ---- words
 
@@ -93,12 +93,6 @@ course-run =
     (λ image tag word words is rest.
     ap (batch.replying (step image tag (batch.codeOf word) (batch.readingOf word) .answered .line)) rest
     ∙ rw (word-happens (record { image = image; tag = tag }) word, refused-event word is, eqb·suc-suc (length (eventsOf words)) (length words)))
-
--- every run has a line bit for each event
-pub line-length : (s : State) (events : List Event) → length (run s events .line) ≡ length events
-unfolding run
-line-length s [] = refl
-line-length s (e ∷ events) = ap suc (line-length (after s e) events)
 
 -- no more words are done than there are
 events-short : (words : List ℕ) → length (eventsOf words) ≤ length words

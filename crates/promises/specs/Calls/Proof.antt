@@ -13,6 +13,7 @@ use lib.Seq.{take-at}
 use denote.Ref.{now}
 use Rattle.answer.specs.Answer.Laws.{accepted-is}
 use Rattle.bits.specs.Bits.{digit}
+use Rattle.bits.specs.Bits.Laws.{digit-same}
 use Rattle.bits.specs.Choose.{if_then_else_}
 use Rattle.dump.specs.Dump.{dumpOf}
 use Rattle.record.specs.declared.Answered.{Answered}
@@ -20,7 +21,7 @@ use Rattle.record.specs.Record.{Outcome}
 use Rattle.tag.specs.Tag.{eventOf, step}
 use Rattle.tag.specs.Tag.Laws.{step-taken, event-tick, event-reading, event-other}
 use Rattle.promises.specs.Batches.{eventsOf, askedNumber}
-use Rattle.promises.specs.Batches.Words.{line-length, asked-none}
+use Rattle.promises.specs.Batches.Words.{asked-none}
 use Rattle.promises.specs.Batches.Proof.{batches}
 use Rattle.promises.specs.Calls.{Made, Called, Handed, Meaning, meaningOf, Chain, Calls}
 use Rattle.promises.specs.Demand2.{Lists, demand2}
@@ -30,7 +31,7 @@ use Rattle.promises.specs.Demand3.{JustReset}
 use Rattle.promises.specs.Demand3.Proof.{demand3}
 use Rattle.promises.specs.History
 use Rattle.promises.specs.Runs.{State, Event, leaves, happens, after, lineBit, Ran, run, Reached}
-use Rattle.promises.specs.Runs.Laws.{Sound, reached-sound, slot-happens, reset-happens, tick-happens, run-append, reached-after, reached-run}
+use Rattle.promises.specs.Runs.Laws.{Sound, reached-sound, slot-happens, reset-happens, tick-happens, line-length, run-append, reached-after, reached-run}
 
 -- ---- one call, by what it is taken for
 
@@ -102,18 +103,12 @@ module _ {s t : State} {code reading : ℕ} {bit : Bool} (reached : Reached s) (
 -- ---- a list
 
 -- bits that give the same bytes are the same
-digit-injective : (a b : Bool) → digit a ≡ digit b → a ≡ b
-digit-injective true true e = refl
-digit-injective true false e = absurd (omega arith)
-digit-injective false true e = absurd (omega arith)
-digit-injective false false e = refl
-
 digits-injective : (bits others : List Bool) → map digit bits ≡ map digit others → bits ≡ others
 digits-injective [] [] e = refl
 digits-injective [] (b ∷ others) e = let none : 0 ≡ suc (length (map digit others)) = ap length e in absurd (omega arith)
 digits-injective (a ∷ bits) [] e = let none : suc (length (map digit bits)) ≡ 0 = ap length e in absurd (omega arith)
 digits-injective (a ∷ bits) (b ∷ others) e =
-    let first : a ≡ b = digit-injective a b (ap (λ (l : List ℕ). getD l 0 0) e) in
+    let first : a ≡ b = digit-same a b (ap (λ (l : List ℕ). getD l 0 0) e) in
     let rest : bits ≡ others = digits-injective bits others (ap (drop 1) e) in
     λ i. first i ∷ rest i
 

@@ -4,7 +4,7 @@ use mathlib.Core.Path.{_≡_, refl, ap, _∙_}
 use mathlib.Core.Bool.{Bool, true, false}
 use mathlib.Core.List.{List, [], _∷_, _++_}
 use mathlib.Core.Logic.{dite}
-use Prim.Native.Nat.{ℕ, _≤_, _<_}
+use Prim.Native.Nat.{ℕ, suc, _≤_, _<_}
 use native.Mathlib.Decide.{decLe}
 use native.Mathlib.Omega.{arith}
 use borrow.Author.Tests.{lt-ltb, le-ltb}
@@ -94,6 +94,13 @@ together-with P Q R S s [] t (f ∷ fs) p q r z = absurd r
 together-with P Q R S s (e ∷ es) t [] p q r z = absurd r
 together-with P Q R S s (e ∷ es) t (f ∷ fs) p q r z =
     ((p .0, q .0, r .0, z .0), together-with P Q R S (after s e) es (after t f) fs (p .1) (q .1) (r .1) (z .1))
+
+-- ---- a line bit for each event
+
+pub line-length : (s : State) (es : List Event) → length (run s es .line) ≡ length es
+unfolding run
+line-length s [] = refl
+line-length s (e ∷ es) = ap suc (line-length (after s e) es)
 
 -- ---- one run and then another
 
