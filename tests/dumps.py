@@ -45,7 +45,8 @@ def forged(rng):
     """Lines in order, whatever the registers say: every bit that the dock must not use may be set."""
     registers = bytearray(rng.randbytes(64))
     registers[0x06:0x08] = rng.choice((1, 256, 0x4000, 0x8001, 0xFFFF, rng.randrange(65536))).to_bytes(2, "little")
-    registers[0x13] |= ETL
+    # With TLFS and SUTA entry 0 has low bits, as in a dump of an older tag, and is listed as it stands (R102.5).
+    registers[0x13] |= ETL | rng.choice((0, 0, TLFS | SUTA))
     registers[0x15] &= ~MEMCLR
     registers[0x26] = rng.choice((CODE_L, CODE_T))
     samples = rng.choice((0, 1, 5, 4095, 4096, 4097, 8191, 8192, 8193, 0xFFFFFE, 0xFFFFFF, rng.randrange(1 << 24)))

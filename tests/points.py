@@ -1,4 +1,4 @@
-"""The points of document 01, computed by the model. Last line: how many passed and failed."""
+"""The points of document 01 and of request #102, computed by the model. Last line: how many passed and failed."""
 
 import random
 import sys
@@ -9,8 +9,8 @@ from model import dock, programs
 from model.crc import crc8, crc16
 from model.master import Master
 from model.tag import (
-    ALARMS, BOR, CLOCK, CODE_L, CODE_T, DELAY, DEVICE_SAMPLES, EHSS, ETHA, ETL, ETLA, IMAGE_LENGTH,
-    LATEST, LOG_IN_IMAGE, MEMCLR, MIP, MISSION_SAMPLES, OSCILLATOR, RATE, RO, STAMP, STATUS, SUTA, TLFS, WFTA,
+    ALARMS, BOR, CLOCK, CODE_L, CODE_T, CONTROL, DELAY, DEVICE_SAMPLES, EHSS, ETHA, ETL, ETLA, IMAGE_LENGTH,
+    LATEST, LOG_IN_IMAGE, MEMCLR, MIP, MISSION_SAMPLES, OSCILLATOR, RATE, RO, STAMP, STATUS, SUTA, THF, TLFS, WFTA,
     clock_after, new)
 
 ROM = bytes.fromhex("412BC5FB000000A1")
@@ -186,16 +186,41 @@ def suta_points(points):
     master.tick(673)
     points.equal("entry 0 is uncounted", master.tag.number(MISSION_SAMPLES), 0)
     points.equal("entry 0: no stamp, seconds minus the period", dock.listing(dock.dump(master.tag)),
-                 b"4000000001000000000000\n00000000FFFFFFFFFFFFFFFF0011\n")
+                 b"4000000001000000000000\n00000000FFFFFFFFFFFFFFFF0010\n")
     master.tick(5)
     points.equal("entry 1 sets the stamp", bytes(master.tag.image[STAMP:STAMP + 6]).hex(), "010100010100")
     points.equal("entry 1 counts", dock.listing(dock.dump(master.tag)).split(b"\n")[1:3],
-                 [b"00000000FFFFFFFFFFFFFFFF0011", b"000000010000000000000000FD75"])
+                 [b"00000000FFFFFFFFFFFFFFFF0010", b"000000010000000000000000FD75"])
     for tlfs, places in ((TLFS, 4096), (0, 8192)):
         page["control"] = ETL | SUTA | tlfs
         master = ticks(begin(new_master(), **page), [800] * (places + 3))
         points.equal(f"log full with SUTA, {places}", master.tag.number(MISSION_SAMPLES), places - 1)
         points.equal(f"and listed, {places}", dock.listing(dock.dump(master.tag)).count(b"\n"), places + 1)
+
+
+def alarm_start_points(points):
+    """Request #102: a waiting conversion is to 8 bits, the alarming one too, and a Forced Conversion is not."""
+    page = {"control": ETL | SUTA | TLFS, "high": 0x54, "enable": ETHA, "clock": "000010050316"}
+    master = begin(new_master(), **page)
+    tag, image = master.tag, master.tag.image
+    for reading, expected in (
+            (671, ("0053", "00000000", 0, MIP | WFTA, "000000000000", 0, 1)),
+            (679, ("0054", "54000000", THF, MIP, "000000000000", 0, 2)),
+            (679, ("e054", "540054e0", THF, MIP, "030010050316", 1, 3))):
+        master.tick(reading)
+        points.equal(f"alarm start: {reading}", (
+            image[LATEST:LATEST + 2].hex(), image[LOG_IN_IMAGE:LOG_IN_IMAGE + 4].hex(), image[ALARMS], image[STATUS],
+            image[STAMP:STAMP + 6].hex(), tag.number(MISSION_SAMPLES), tag.number(DEVICE_SAMPLES)), expected)
+    points.equal("alarm start: listing", dock.listing(dock.dump(tag)),
+                 b"4000000002030010050316\n00000000FFFFFFFFFFFFFFFF0010\n0000000100000000000000000017\n")
+    master = ticks(begin(new_master(), **page), [671])
+    master.skip()
+    master.stop()
+    master.skip()
+    master.force()
+    master.skip()
+    registers = master.read_memory(0x0200, 32)[0]
+    points.equal("alarm start: Stop, Forced Conversion", (registers[0x0C:0x0E].hex(), registers[0x15]), ("e053", 0xD0))
 
 
 def rollover_points(points):
@@ -221,14 +246,15 @@ def history_listing(readings, tlfs, ro, suta):
     held = min(len(entries), places)
     lines = [f"40{held:08X}{stamp}"]
     for k in range(len(entries) - held, len(entries)):
-        temperature = (entries[k] if tlfs else entries[k] & ~7) - 656
+        temperature = (entries[k] if tlfs and not (suta and k == 0) else entries[k] & ~7) - 656
         seconds = k - 1 if suta else k
         lines.append(f"{k:08X}{seconds & 0xFFFFFFFFFFFFFFFF:016X}{temperature & 0xFFFF:04X}")
     return "".join(line + "\n" for line in lines).encode()
 
 
 def history_points(points):
-    """Demand 2: exactly the readings that the log still holds, oldest first, to the format's resolution."""
+    """Demand 2: exactly the readings that the log still holds, oldest first, to the format's resolution; entry 0 of an
+    alarm start to 8 bits (R102.6)."""
     rng = random.Random(2)
     for tlfs, ro, suta in ((t, r, s) for t in (0, TLFS) for r in (0, RO) for s in (0, SUTA)):
         places = 4096 if tlfs else 8192
@@ -299,6 +325,18 @@ def other_image_points(points):
     master.tick(1)
     points.equal("the stamp without the clock's unnamed bits", bytes(image[STAMP:STAMP + 6]).hex().upper(),
                  "7F7F3F3F9FFF")
+
+
+def other_waiting_points(points):
+    """Such images again: SUTA and WFTA tell of a waiting conversion, mission samples does not (R102.7)."""
+    for control, status, samples, expected in (
+            (SUTA, MIP | WFTA, 5, ("0053", 5)), (SUTA, MIP, 0, ("e053", 1)), (0, MIP | WFTA, 0, ("e053", 1))):
+        master = begin(new_master(), high=0x54, enable=ETHA)
+        image = master.tag.image
+        image[CONTROL], image[STATUS], image[MISSION_SAMPLES] = ETL | TLFS | control, status, samples
+        master.tick(671)
+        points.equal(f"control {control:02X}h, status {status:02X}h, {samples} samples: latest, samples",
+                     (image[LATEST:LATEST + 2].hex(), master.tag.number(MISSION_SAMPLES)), expected)
 
 
 def sheet_mission(points):
@@ -392,8 +430,9 @@ def line_points(points):
 def main():
     points = Points()
     for check in (crc_points, clock_points, temperature_points, alarm_points, rate_points, scratchpad_points,
-                  full_point, suta_points, rollover_points, history_points, listing_points, forced_points,
-                  other_image_points, sheet_mission, program_points, password_points, line_points):
+                  full_point, suta_points, alarm_start_points, rollover_points, history_points, listing_points,
+                  forced_points, other_image_points, other_waiting_points, sheet_mission, program_points,
+                  password_points, line_points):
         check(points)
     print(f"{points.passed} passed, {points.failed} failed")
     return 1 if points.failed else 0

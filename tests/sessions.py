@@ -20,6 +20,8 @@ ROM_COMMANDS = (READ_ROM, MATCH_ROM, SEARCH_ROM, CONDITIONAL_SEARCH, SKIP_ROM, R
 MEMORY_COMMANDS = (WRITE_SCRATCHPAD, READ_SCRATCHPAD, COPY_SCRATCHPAD, READ_MEMORY, CLEAR, START, STOP,
                    FORCED_CONVERSION)
 EDGE_READINGS = (0, 7, 8, 671, 672, 679, 680, 2040, 2047)
+THRESHOLDS = b"\x10\xE0"
+NO_ALARM, ALARM = range(0x88, 0x700), (5, 135, 1797, 2045)  # readings between these thresholds, and at or beyond them
 EDGE_ADDRESSES = (0x0000, 0x01FF, 0x0200, 0x0213, 0x0220, 0x0226, 0x023F, 0x0240, 0x027F, 0x0280, 0x0FE0, 0x0FFF,
                   0x1000, 0x2FDF, 0x2FE0, 0x2FFF, 0x3000, 0x3001, 0xFFFF)
 EDGE_CLOCKS = (
@@ -550,7 +552,7 @@ def log_end(tlfs, ro, suta):
         session.start(rate=1, control=ETL | tlfs | ro | suta, thresholds=b"\x20\x70", enable=rng.randint(1, 3))
         session.ticks(rng.randrange(10) if suta else 0)
         if suta and not session.tag.image[ALARMS] & (THF | TLF):
-            session.master.tick(0 if session.tag.image[0x0210] & ETLA else 2047)
+            session.master.tick(7 if session.tag.image[0x0210] & ETLA else 2047)
         left = places - session.tag.number(0x0220) - rng.choice((1, 2))
         session.ticks(left)
         for _ in range(3):
@@ -571,9 +573,9 @@ def forced(session):
     for _ in range(rng.randint(2, 6)):
         if session.chance(0.5):
             session.start(rate=rng.randint(1, 4), control=ETL | rng.choice((SUTA, SUTA, 0)) | rng.choice((0, TLFS)),
-                          thresholds=bytes((0x10, 0xE0)), enable=rng.choice((0, 1, 2, 3)))
+                          thresholds=THRESHOLDS, enable=rng.choice((0, 1, 2, 3)))
             for _ in range(rng.randrange(4)):
-                master.tick(0x400)  # no alarm: WFTA stays
+                master.tick(rng.choice(NO_ALARM))  # WFTA stays
             session.ticks(rng.choice((0, 0, 1)))
         if session.chance(0.7):
             session.select()
@@ -592,30 +594,45 @@ def waiting(session):
     """A tag that waits for an alarm, or doesn't, through every order of ticks and commands, watched at each step."""
     rng, master = session.rng, session.master
     session.start(rate=1, control=ETL | rng.choice((SUTA, SUTA, SUTA, 0)) | rng.choice((0, TLFS)),
-                  thresholds=b"\x10\xE0", enable=rng.choice((0, 1, 2, 3, 3)))
+                  thresholds=THRESHOLDS, enable=rng.choice((0, 1, 2, 3, 3)))
     if session.chance(0.6):
         stopped_while_waiting(session)
     for _ in range(rng.randint(10, 20)):
         step = rng.choice((
-            lambda: master.tick(0x400), lambda: master.tick(rng.choice((5, 2045))), master.stop, master.clear,
-            master.start, master.force, master.force))
+            lambda: master.tick(rng.choice(NO_ALARM)), lambda: master.tick(rng.choice(ALARM)), master.stop,
+            master.clear, master.start, master.force, master.force))
         session.select()
         step()
         session.look_at(0x020C, 10)
     session.look()
     session.look_at(0x1000, 16)
+    alarm_start(session)
 
 
 def stopped_while_waiting(session):
-    """WFTA stays over Stop and Clear; then a Forced Conversion that alarms clears it."""
+    """WFTA stays over Stop and Clear; a Forced Conversion leaves it, then one that alarms clears it."""
     rng, master = session.rng, session.master
-    for _ in range(rng.randrange(3)):
-        master.tick(0x400)
-    for step in (master.stop, rng.choice((master.clear, master.stop)), lambda: master.tick(rng.choice((5, 2045))),
-                 master.force):
+    for _ in range(rng.randint(1, 3)):
+        master.tick(rng.choice(NO_ALARM))
+    for step in (master.stop, rng.choice((master.clear, master.stop)), master.force,
+                 lambda: master.tick(rng.choice(ALARM)), master.force):
         session.select()
         step()
         session.look_at(0x020C, 10)
+
+
+def alarm_start(session):
+    """In 16-bit format: a mission stopped while it waits, and one that waits, alarms and goes on, with its registers
+    and log looked at after each conversion."""
+    rng = session.rng
+    page = {"rate": 1, "control": ETL | SUTA | TLFS, "thresholds": THRESHOLDS, "enable": 3}
+    session.start(**page)
+    stopped_while_waiting(session)
+    session.start(**page)
+    for readings in (*[NO_ALARM] * rng.randint(1, 3), ALARM, range(2048), range(2048)):
+        session.master.tick(rng.choice(readings))
+        session.look_at(0x020C, 26)
+        session.look_at(0x1000, 6)
 
 
 def start_conditions(session):

@@ -115,7 +115,9 @@ def registers_read():
             ("table", {0x0210: 0}, "No threshold: the tag's alarms are not enabled."),
             ("table", {0x0212: 3}, "66 entries, one every 10 s."), ("report", {0x0212: 3}, "every 10 s, 0.0625 °C an entry"),
             ("report", {0x0213: 0xD5}, "the oldest entries are overwritten (rollover)"),
-            ("report", {0x0213: 0xE5}, "upon an alarm (SUTA)"), ("report", {0x0215: 0}, "no mission was running any more"),
+            ("report", {0x0213: 0xE5}, "upon an alarm (SUTA)"),
+            ("report", {0x0213: 0xE5}, "0.0625 °C an entry, 0.5 °C while waiting for the alarm, which is entry 0"),
+            ("report", {0x0213: 0xE1}, ", 0.5 °C an entry</dd>"), ("report", {0x0215: 0}, "no mission was running any more"),
             ("report", {0x0214: 0x71}, "low (TLF)"), ("report", {0x0203: 0x32}, "no date and time"),
             ("report", {0x0225: 1}, "66 in this mission, 65,602 in the tag")):
         got = shown(word, "-", stdin=with_registers(values))

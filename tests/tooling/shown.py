@@ -29,6 +29,8 @@ FORMS = ("table", "picture", "report")
 ODD = (
     ("no entry", listing(stamp="000000000000"), "The log holds no entry."), ("one entry", listing((0, 0, 144)), "1 entry."),
     ("entry 0 alone", listing((0, -600, 144), stamp="000000000000"), "which is zeros: no counted entry has set it"),
+    ("an alarm start", listing((0, -1, 16), (1, 0, 23)), "Entry 0 is the alarm that started the log, to half a degree; the stamp"),
+    ("an older tag's alarm start", listing((0, -1, 23), (1, 0, 23)), "Entry 0 is the alarm that started the log; the stamp"),
     ("rollover", listing(*((k, 60 * k, 8 * (k % 99)) for k in range(5000, 13192))), "The 5,000 older entries were"),
     ("a minute's period", listing(*((k, 60 * k, 8 * (k % 99)) for k in range(90))), "one every minute."),
     ("a gap", listing(*(entry for entry in DAY if not 9 < entry[0] < 20)), "Entries are missing in 1 place"),

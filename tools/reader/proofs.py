@@ -51,7 +51,10 @@ def rows(source):
 def mission_rows(registers):
     """What a person asks of a mission; read out of the dump by the reader."""
     clock = date_of(registers.clock)
-    yield "Sampling", f"{period_words(registers.period)}, {'0.0625' if registers.entry_bytes == 2 else '0.5'} °C an entry"
+    resolution = "0.0625 °C an entry" if registers.entry_bytes == 2 else "0.5 °C an entry"
+    if registers.entry_bytes == 2 and registers.suta:
+        resolution += ", 0.5 °C while waiting for the alarm, which is entry 0"
+    yield "Sampling", f"{period_words(registers.period)}, {resolution}"
     yield "When the log is full", "the oldest entries are overwritten (rollover)" if registers.ro else "logging ends"
     yield "Start", "upon an alarm (SUTA)" if registers.suta else "at once, or after the delay that was set"
     yield "State", "the mission was still running" if registers.mip else "no mission was running any more"

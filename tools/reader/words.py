@@ -61,7 +61,9 @@ def log_words(listing):
     if gaps:
         words.append(f"Entries are missing in {gaps} {'place' if gaps == 1 else 'places'}: the line is broken there.")
     if entries[0].seconds < 0:
-        words.append("Entry 0 is the alarm that started the log; the stamp is that of entry 1.")
+        # An older tag kept entry 0 to the format's resolution.
+        half = ", to half a degree" if entries[0].temperature % HALF == 0 else ""
+        words.append(f"Entry 0 is the alarm that started the log{half}; the stamp is that of entry 1.")
     return words
 
 

@@ -1,7 +1,7 @@
 // One conversion of a mission: it is counted, stored, held against the thresholds and logged. Beside it the clock, which sets the
 // stamp. Every function answers an image of any length and bytes, and any reading.
 ghost use mathlib.Core.Path.{_≡_};
-ghost use Rattle.conversion.specs.Conversion.{converted, deviceCounted, latestStored, resolved, thfSet, tlfSet, ended};
+ghost use Rattle.conversion.specs.Conversion.{converted, taken, deviceCounted, latestStored, resolved, thfSet, tlfSet, ended};
 
 pub mod alarm;
 pub mod clock;
@@ -24,11 +24,23 @@ pub fn make(image: &mut [u8], reading: u16)
     if ended(image) {
         return;
     }
+    let result = taken(image, reading);
     count_device(image);
-    store_latest(image, reading);
-    set_thf(image, reading);
-    set_tlf(image, reading);
-    log::record_reading(image, reading);
+    store_latest(image, result);
+    set_thf(image, result);
+    set_tlf(image, result);
+    log::record_reading(image, result);
+}
+
+// While it waits for an alarm, the tag converts to 8 bits only.
+fn taken(image: &[u8], reading: u16) -> u16
+    ensures { λ r. ⌜ r ≡ taken (now (image .entry)) reading ⌝ }
+{
+    if log::waiting(image) {
+        reading / 8 * 8
+    } else {
+        reading
+    }
 }
 
 // The log is full and may not roll over, or no more samples can be counted.

@@ -2,7 +2,7 @@
 -- its address. Unnamed bits count as 0. Assumes nothing.
 use mathlib.Core.Bool.{Bool}
 use mathlib.Core.List.{List}
-use Prim.Native.Nat.{ℕ, _*_, _/_, _%_, _^_}
+use Prim.Native.Nat.{ℕ, _*_, _%_, _^_}
 use lib.ListN.{getD}
 use Rattle.image.specs.Fields.{wordAt, putWord, flagAt, putFlag}
 
@@ -18,10 +18,6 @@ lowThreshold image = getD image 0x0208 0
 
 abbrev pub highThreshold : List ℕ → ℕ
 highThreshold image = getD image 0x0209 0
-
--- "020Ch reading bits 2-0 in bits 7-5, 020Dh bits 10-3": the reading times 32, low byte first
-abbrev pub latest : List ℕ → ℕ
-latest image = wordAt image 0x020C 2 / 32
 
 -- "0210h ETLA bit 0, ETHA 1"
 abbrev pub etla : List ℕ → Bool
@@ -98,6 +94,7 @@ fullPassword image = wordAt image 0x0230 8
 
 -- ---- what the tag itself writes, at the same places
 
+-- "020Ch reading bits 2-0 in bits 7-5, 020Dh bits 10-3": the reading times 32, low byte first
 abbrev pub putLatest : List ℕ → ℕ → List ℕ
 putLatest image reading = putWord image 0x020C 2 (reading * 32)
 

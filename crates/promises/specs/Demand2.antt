@@ -1,7 +1,8 @@
 -- Demand 2 of the order, the listing: "From a dump of one moment, with no register written and no Clear done since the mission's
--- start, the dock lists exactly that mission's readings that the log still holds, oldest first, to the format's resolution." What a
--- mission's readings are is said in `History`, from the settings at Start and the ticks' readings alone; which events are spoken of
--- in `Demand2.Events`; that there are such, with one mission's listing in numbers, in `Demand2.Met`. Assumes nothing.
+-- start, the dock lists exactly that mission's readings that the log still holds, oldest first, to the format's resolution", which of
+-- entry 0 of an alarm start is 8 bits (request #102). What a mission's readings are, and what is kept of them, is said in `History`, from
+-- the settings at Start and the ticks' readings alone; which events are spoken of in `Demand2.Events`; that there are such, with one
+-- mission's listing in numbers, in `Demand2.Met`. Assumes nothing.
 use mathlib.Core.Path.{_≡_, ap}
 use mathlib.Core.Bool.{true}
 use mathlib.Core.List.{List, []}
@@ -16,7 +17,6 @@ use Rattle.dump.specs.Dump.{dumpOf}
 use Rattle.image.specs.Fields.{flagAt}
 use Rattle.image.specs.Registers
 use Rattle.conversion.specs.Conversion as conversion
-use Rattle.mission.specs.Mission
 use Rattle.record.specs.Record.{goodCode}
 use Rattle.record.specs.Record.Laws.{ranges-of}
 use Rattle.promises.specs.Demand2.Course.{reached-solid, solid-run, starts-after, listed-run}
@@ -67,9 +67,10 @@ pub record Lists (s : Settings) (entries : List Conversion) (code : ℕ) (dump :
   -- "Seconds from the stamp"
   pub seconds : heldOf s entries ≤ length lent → (i : ℕ)
       → secondsAt (listingOf dump (length lent)) i ≡ History.seconds s (numberOf s entries i)
-  -- the temperature of the reading as the format keeps it, oldest first
+  -- the temperature of the reading as the log keeps it, oldest first
   pub temperatures : heldOf s entries ≤ length lent → (i : ℕ) → i < heldOf s entries
-      → getD (temperaturesOf dump lent) i (pos 0) ≡ History.temperature code (History.kept s (getD entries (numberOf s entries i) none .reading))
+      → let k = numberOf s entries i in
+      getD (temperaturesOf dump lent) i (pos 0) ≡ History.temperature code (History.kept s k (getD entries k none .reading))
   -- as many places come back as were lent, and "places past the entries stay as they were"
   pub places : length (temperaturesOf dump lent) ≡ length lent
   pub past : heldOf s entries ≤ length lent → (i : ℕ) → heldOf s entries ≤ i

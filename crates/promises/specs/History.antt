@@ -1,6 +1,6 @@
 -- A mission's history: what a mission logs, told from its settings at Start and the readings of its ticks alone. It never looks at
 -- an image (document 01, "A mission"; the order's demand 2). Assumes nothing.
-use mathlib.Core.Bool.{Bool, _&&_, _||_}
+use mathlib.Core.Bool.{Bool, not, _&&_, _||_}
 use mathlib.Core.List.{List, [], _∷_}
 use Prim.Native.Nat.{ℕ, suc, _+_, _-_, _*_, _/_, _%_, min}
 use lib.Dec.{eqb, leb, ltb}
@@ -94,9 +94,10 @@ stamp s entries = clockAt s (drop (digit (s .suta)) entries)
 
 -- ---- what the log keeps of a reading
 
--- "to the format's resolution": of an 8-bit entry "a reading of 8 times the byte"
-unfoldable pub kept : Settings → ℕ → ℕ
-kept s reading = if s .tlfs then reading else 8 * (reading / 8)
+-- of the reading of entry k, "to the format's resolution": of an 8-bit entry "a reading of 8 times the byte"; and of entry 0 of an alarm
+-- start "demand 2 reads its resolution as 8 bits" (request #102)
+unfoldable pub kept : Settings → ℕ → ℕ → ℕ
+kept s k reading = if not (s .tlfs) || (s .suta && eqb k 0) then 8 * (reading / 8) else reading
 
 -- ---- what a listing says of an entry
 

@@ -4,6 +4,7 @@ pub mod Refusals
 pub mod Demand1
 pub mod History
 pub mod Demand2
+pub mod AlarmStart
 pub mod Demand3
 pub mod Calls
 pub mod Batches

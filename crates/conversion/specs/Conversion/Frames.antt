@@ -11,7 +11,7 @@ use Rattle.image.specs.Keeps.{Keeps, keeps-then, keeps-within}
 use Rattle.image.specs.Leaves.{Leaves, leaves-same, leaves-then, leaves-choice, leaves-wider, leaves-keeps, leaves-putWord, leaves-putFlag}
 use Rattle.image.specs.Registers.{tlfs, missionSamples, deviceSamples}
 use Rattle.conversion.specs.Clock.Laws.{keeps-putClock}
-use Rattle.conversion.specs.Conversion.{deviceCounted, latestStored, alarmsHigh, alarmsLow, alarms, thfSet, tlfSet, measured, waiting, places, logged, stamped, counted, recorded, ended, converted}
+use Rattle.conversion.specs.Conversion.{deviceCounted, latestStored, alarmsHigh, alarmsLow, alarms, thfSet, tlfSet, measured, waiting, places, logged, stamped, counted, recorded, ended, taken, converted}
 
 -- ---- the parts of a conversion
 
@@ -81,5 +81,6 @@ pub leaves-converted : (image : List ℕ) (reading : ℕ)
     (converted image reading)
 unfolding converted
 leaves-converted image reading =
+    let result = taken image reading in
     leaves-choice (ended image) leaves-same
-    (leaves-then (leaves-wider tt (leaves-measured image reading)) (leaves-wider tt (leaves-recorded _ reading)))
+    (leaves-then (leaves-wider tt (leaves-measured image result)) (leaves-wider tt (leaves-recorded _ result)))

@@ -12,10 +12,10 @@ use lib.ListN.{length, getD, set, length-set}
 use lib.Seq.{getD-set-same, getD-set-other}
 use Rattle.bits.specs.Choose.{if_then_else_, choices, either}
 use Rattle.calendar.specs.declared.Clock.{Clock}
-use Rattle.image.specs.Fields.{putFlag, flagAt}
+use Rattle.image.specs.Fields.{wordAt, putFlag, flagAt}
 use Rattle.image.specs.Fields.Laws.{word-putWord, word-lt, flag-putFlag}
 use Rattle.image.specs.Keeps.{keeps-putWord, flag-kept}
-use Rattle.image.specs.Registers.{latest, tlfs, thf, tlf, missionSamples, deviceSamples}
+use Rattle.image.specs.Registers.{tlfs, thf, tlf, missionSamples, deviceSamples}
 use Rattle.conversion.specs.Clock.{clockOf, stampOf}
 use Rattle.conversion.specs.Clock.Laws.{stamp-kept, stamp-putClock}
 use Rattle.conversion.specs.Conversion.{deviceCounted, resolved, latestStored, alarmsHigh, alarmsLow, thfSet, tlfSet, places, logged, entryAt, stamped, counted}
@@ -96,11 +96,11 @@ module _ {image : List ℕ} (w : Whole image) where
 
   -- ---- the latest reading and the flags
 
-  pub latest-stored : (reading : ℕ) → latest (latestStored image reading) ≡ resolved image (reading % 2048)
+  pub latest-stored : (reading : ℕ) → wordAt (latestStored image reading) 0x020C 2 ≡ 32 * resolved image (reading % 2048)
   unfolding latestStored resolved
   latest-stored reading =
       rw (word-putWord image 0x020C 2 ((if tlfs image then reading else reading / 8 * 8) * 32) (omega (arith, w .size)))
-      (choices (λ (n m : ℕ). n * 32 % 256 ^ 2 / 32 ≡ m) (tlfs image) (omega arith) (omega arith))
+      (choices (λ (n m : ℕ). n * 32 % 256 ^ 2 ≡ 32 * m) (tlfs image) (omega arith) (omega arith))
 
   -- a flag of 0214h that is put where a test passes
   raised : (i : ℕ) (t : Bool) → T (ltb i 8) → flagAt (if t then putFlag image 0x0214 i true else image) 0x0214 i ≡ t || flagAt image 0x0214 i

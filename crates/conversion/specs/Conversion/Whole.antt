@@ -15,7 +15,7 @@ use Rattle.image.specs.Fields.Laws.{length-putWord, bytes-putWord, length-putFl
 use Rattle.image.specs.Registers.{eosc, tlfs, missionSamples, deviceSamples}
 use Rattle.conversion.specs.Clock.{clockOf, putBytes, putClock, clocked}
 use Rattle.conversion.specs.Clock.Named.{clock-named}
-use Rattle.conversion.specs.Conversion.{deviceCounted, latestStored, alarmsHigh, alarmsLow, alarms, thfSet, tlfSet, measured, waiting, nextEntry, logged, stamped, counted, recorded, ended, converted}
+use Rattle.conversion.specs.Conversion.{deviceCounted, latestStored, alarmsHigh, alarmsLow, alarms, thfSet, tlfSet, measured, waiting, nextEntry, logged, stamped, counted, recorded, ended, taken, converted}
 
 pub record Whole (image : List ℕ) : Type 0 where
   pub size : length image ≡ 8832
@@ -91,7 +91,9 @@ whole-recorded {image} reading w =
 
 pub whole-converted : {image : List ℕ} (reading : ℕ) → Whole image → Whole (converted image reading)
 unfolding converted
-whole-converted {image} reading w = whole-choice (ended image) w (whole-recorded reading (whole-measured reading w))
+whole-converted {image} reading w =
+    let result = taken image reading in
+    whole-choice (ended image) w (whole-recorded result (whole-measured result w))
 
 -- ---- the clock
 

@@ -1,13 +1,14 @@
 -- What Clear, Start, Stop and Forced Conversion do, field by field, in an image of 8,832 bytes; what each leaves is in
 -- the frames. Assumes nothing.
-use mathlib.Core.Path.{_≡_, refl, ap, _∙_}
+use mathlib.Core.Path.{_≡_, refl, _∙_}
 use mathlib.Core.Bool.{Bool, true, false, not, _&&_, and-eq-true-iff}
 use mathlib.Core.List.{List}
-use Prim.Native.Nat.{ℕ, _+_, _*_, _/_, _%_, min}
+use Prim.Native.Nat.{ℕ, _+_, _*_, _%_, min}
 use native.Mathlib.Omega.{arith}
 use borrow.Author.Tests.{not-true, eqb-false}
 use lib.Dec.{eqb}
 use Rattle.bits.specs.Choose.{if_then_else_, choices}
+use Rattle.image.specs.Fields.{wordAt}
 use Rattle.image.specs.Fields.Laws.{word-putWord, flag-putFlag}
 use Rattle.image.specs.Leaves.{leaves-putWord, leaves-putFlag, word-left}
 use Rattle.image.specs.Registers
@@ -143,7 +144,7 @@ unfolding forced
 forced-mission image c e = rw e
 
 pub record Forces (before : List ℕ) (reading : ℕ) (after : List ℕ) : Type 0 where
-  pub latest : Registers.latest after ≡ reading % 2048
+  pub latest : wordAt after 0x020C 2 ≡ 32 * (reading % 2048)
   pub deviceSamples : Registers.deviceSamples after ≡ min (Registers.deviceSamples before + 1) 0xFFFFFF
   pub eosc : Registers.eosc after ≡ true
   pub wfta : Registers.wfta after ≡ if alarms before reading then false else Registers.wfta before
@@ -164,8 +165,10 @@ forces {image} w c e =
     let same = settings-then (settings-left la tt tt tt tt tt) (settings-then (settings-left lb tt tt tt tt tt) (settings-left ld tt tt tt tt tt)) in
     rw e
     (record {
-      latest = ap (λ (n : ℕ). n / 32)
-          (word-left 0x020C 2 lw tt ∙ word-left 0x020C 2 ld tt ∙ word-left 0x020C 2 lb tt ∙ word-putWord image 0x020C 2 (c .reading * 32) (omega (arith, w .size)))
+      latest = word-left 0x020C 2 lw tt
+          ∙ word-left 0x020C 2 ld tt
+          ∙ word-left 0x020C 2 lb tt
+          ∙ word-putWord image 0x020C 2 (c .reading * 32) (omega (arith, w .size))
           ∙ omega arith;
       deviceSamples = word-left 0x0223 3 lw tt ∙ word-left 0x0223 3 ld tt ∙ device-counted wa ∙ rw (word-left 0x0223 3 la tt);
       eosc = lw .bits 0x0212 0 tt tt tt ∙ flag-putFlag b 0x0212 0 true (omega (arith, wb .size)) tt;

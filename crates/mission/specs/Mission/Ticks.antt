@@ -1,8 +1,8 @@
 -- What one tick does, case by case: no mission, the delay, between conversion times, and a conversion time.
 -- Assumes nothing.
-use mathlib.Core.Path.{_≡_, refl, _∙_}
+use mathlib.Core.Path.{_≡_, refl, sym, _∙_}
 use mathlib.Core.Bool.{Bool, true, false, not, _&&_, false≢true}
-use mathlib.Core.List.{List}
+use mathlib.Core.List.{List, [], _∷_}
 use Prim.Native.Nat.{ℕ, _-_, _%_, _≤_}
 use native.Mathlib.Omega.{arith}
 use lib.Dec.{eqb}
@@ -12,13 +12,13 @@ use Rattle.calendar.specs.Calendar.{nextSecond}
 use Rattle.calendar.specs.Calendar.Named.{named-next}
 use Rattle.calendar.specs.declared.Clock.{Clock}
 use Rattle.image.specs.Fields.Laws.{word-lt, word-putWord}
-use Rattle.image.specs.Leaves.{word-left}
+use Rattle.image.specs.Leaves.{Leaves, leaves-same, leaves-then, leaves-choice, leaves-wider, leaves-putWord, word-left}
 use Rattle.image.specs.Registers.{eosc, mip, rate, delay, wfta, missionSamples, putDelay}
 use Rattle.conversion.specs.Clock.{clockOf, clocked}
 use Rattle.conversion.specs.Clock.Named.{clock-named, clock-putClock}
-use Rattle.conversion.specs.Conversion.{ended, converted}
+use Rattle.conversion.specs.Conversion.{ended, taken, converted}
 use Rattle.mission.specs.Mission.{delaying, minuteOver, converting, due, missionTicked, nextMinute, nextWait, ticked, tickedCounters}
-use Rattle.conversion.specs.Conversion.Converts.{Converts, converts, ended-same, records-shift}
+use Rattle.conversion.specs.Conversion.Converts.{Converts, converts, ended-same, taken-same, records-shift}
 use Rattle.conversion.specs.Clock.Laws.{leaves-clocked}
 use Rattle.conversion.specs.Conversion.Frames.{leaves-converted}
 use Rattle.conversion.specs.Conversion.Settings.{SameSettings, settings-then, settings-left, resolved-same, alarmsHigh-same, alarmsLow-same}
@@ -117,6 +117,20 @@ module _ (image : List ℕ) (c : Counters) (reading : ℕ) where
   unfolding converted
   ticked-ended f e = ticked-due f ∙ rw (ended-clocked image, e)
 
+  -- a tick that makes no conversion moves the clock and the delay alone
+  pub leaves-quiet : (due image c && not (ended image)) ≡ false → Leaves ((0x0200, 6) ∷ (0x0216, 3) ∷ []) [] image (ticked image c reading)
+  leaves-quiet e = by-tests (delaying image) (due image c) (ended image) refl refl refl e
+    where
+      by-tests : (d u f : Bool) → delaying image ≡ d → due image c ≡ u → ended image ≡ f → (u && not f) ≡ false
+          → Leaves ((0x0200, 6) ∷ (0x0216, 3) ∷ []) [] image (ticked image c reading)
+      by-tests true u f x y z e =
+          rw (ticked-delaying x)
+          (leaves-then (leaves-wider tt (leaves-clocked image))
+          (leaves-choice (minuteOver c) (leaves-wider tt (leaves-putWord _ 0x0216 3 _)) leaves-same))
+      by-tests false false f x y z e = rw (ticked-between x y) (leaves-wider tt (leaves-clocked image))
+      by-tests false true true x y z e = rw (ticked-ended y z) (leaves-wider tt (leaves-clocked image))
+      by-tests false true false x y z e = absurd (false≢true (sym e))
+
   -- the delay falls as its minute is over, and only then
   pub delay-ticked : Whole image → delay (ticked image c reading) ≡ if delaying image && minuteOver c then delay image - 1 else delay image
   delay-ticked w = by-tests (delaying image) (minuteOver c) refl refl
@@ -138,19 +152,20 @@ module _ (image : List ℕ) (c : Counters) (reading : ℕ) where
 
   -- a conversion that is made: what it does to each field, and the clock as the tick has advanced it
   pub converts-ticked : Whole image → due image c ≡ true → ended image ≡ false
-      → Converts image (if eosc image then nextSecond (clockOf image) else clockOf image) reading (ticked image c reading)
+      → Converts image (if eosc image then nextSecond (clockOf image) else clockOf image) (taken image reading) (ticked image c reading)
   converts-ticked w f e =
       let v = whole-clocked w in
       let k = leaves-clocked image in
       let same = settings-clocked image in
-      let r = converts v reading (ended-clocked image ∙ e) in
+      let result = taken image reading in
+      let r = rw (taken-same same (wfta-clocked image) reading) at (converts v reading (ended-clocked image ∙ e)) in
       rw (ticked-due f, ← clock-clocked image (omega (arith, w .size)))
       (record {
         settings = settings-then same (r .settings);
         deviceSamples = rw (word-left 0x0223 3 k tt) at (r .deviceSamples);
-        latest = rw (resolved-same same (reading % 2048)) at (r .latest);
-        thf = rw (alarmsHigh-same same reading, k .bits 0x0214 1 tt tt tt) at (r .thf);
-        tlf = rw (alarmsLow-same same reading, k .bits 0x0214 0 tt tt tt) at (r .tlf);
+        latest = rw (resolved-same same (result % 2048)) at (r .latest);
+        thf = rw (alarmsHigh-same same result, k .bits 0x0214 1 tt tt tt) at (r .thf);
+        tlf = rw (alarmsLow-same same result, k .bits 0x0214 0 tt tt tt) at (r .tlf);
         log = records-shift same (wfta-clocked image) (samples-clocked image) (k .keeps) tt tt tt (r .log);
       })
 

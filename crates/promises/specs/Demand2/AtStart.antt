@@ -1,13 +1,14 @@
 -- The settings of a mission, by the bytes and bits of the image that Start finds. Assumes nothing.
 use mathlib.Core.Path.{_≡_, refl}
-use mathlib.Core.Bool.{Bool}
+use mathlib.Core.Bool.{Bool, true, false, not, _&&_, _||_}
 use mathlib.Core.List.{List}
-use Prim.Native.Nat.{ℕ, _+_, _*_, _%_, _^_, _≤_, _<_, min}
+use Prim.Native.Nat.{ℕ, _+_, _*_, _/_, _%_, _^_, _≤_, _<_, min}
 use native.Mathlib.Omega.{arith}
 use lib.Bits.{bitAnd}
+use lib.Dec.{eqb}
 use lib.ListN.{getD}
 use Rattle.bits.specs.Bits.{digit, bitOf}
-use Rattle.bits.specs.Choose.{if_then_else_, choice, choices}
+use Rattle.bits.specs.Choose.{if_then_else_, choice}
 use Rattle.calendar.specs.declared.Clock.{Clock}
 use Rattle.image.specs.Fields.{wordAt, flagAt}
 use Rattle.image.specs.Registers
@@ -100,9 +101,20 @@ module _ (image : List ℕ) where
   unfolding settingsOf flagAt History.alarms conversion.alarms conversion.alarmsHigh conversion.alarmsLow conversion.isHigh conversion.isLow
   alarms-of reading = refl
 
-  pub kept-of : (reading : ℕ) → History.kept (settingsOf image) reading ≡ conversion.resolved image reading
+  pub kept-of : (k reading : ℕ)
+      → History.kept (settingsOf image) k reading
+      ≡ conversion.resolved image (if Registers.suta image && eqb k 0 then reading / 8 * 8 else reading)
   unfolding settingsOf flagAt History.kept conversion.resolved
-  kept-of reading = choices (λ (n m : ℕ). n ≡ m) (Registers.tlfs image) refl (omega arith)
+  kept-of k reading = by-tests (Registers.tlfs image) (Registers.suta image && eqb k 0)
+    where
+      by-tests : (t first : Bool)
+          → (if not t || first then 8 * (reading / 8) else reading)
+          ≡ (let result = if first then reading / 8 * 8 else reading in
+          if t then result else result / 8 * 8)
+      by-tests true true = omega arith
+      by-tests true false = refl
+      by-tests false true = omega arith
+      by-tests false false = omega arith
 
   -- a Start leaves them as it finds them
   pub settings-found : settingsOf (Mission.started image) ≡ settingsOf image

@@ -58,15 +58,15 @@ pub record Solid (s : State) : Type 0 where
 
 -- ---- what each event leaves
 
-module _ {s : State} (solid : Solid s) where
-  pub tick-leaves : (reading : ℕ) → reading ≤ 2047 → after s (Event.tick reading)
-      ≡ record {
-        image = Mission.ticked (s .image) (s .tag .counters) reading;
-        tag = record { code = s .tag .code; counters = Mission.tickedCounters (s .image) (s .tag .counters) reading; exchange = s .tag .exchange };
-      }
-  unfolding after tickTag
-  tick-leaves reading small = rw (tick-happens (solid .sound) reading small)
+pub tick-leaves : {s : State} → Sound s → (reading : ℕ) → reading ≤ 2047 → after s (Event.tick reading)
+    ≡ record {
+      image = Mission.ticked (s .image) (s .tag .counters) reading;
+      tag = record { code = s .tag .code; counters = Mission.tickedCounters (s .image) (s .tag .counters) reading; exchange = s .tag .exchange };
+    }
+unfolding after tickTag
+tick-leaves sound reading small = rw (tick-happens sound reading small)
 
+module _ {s : State} (solid : Solid s) where
   pub reset-leaves : after s Event.reset
       ≡ record {
         image = s .image;
@@ -126,7 +126,7 @@ solid-after {s} solid Event.reset =
 solid-after {s} solid (Event.tick reading) =
     dite (decLt 2047 reading) (λ high. rw (tick-passed (solid .sound) reading high) solid)
     (λ low.
-    let leaves = tick-leaves solid reading (omega arith) in
+    let leaves = tick-leaves (solid .sound) reading (omega arith) in
     record {
       sound = sound-after (Event.tick reading) (solid .sound);
       whole = rw leaves (whole-ticked (s .tag .counters) reading (solid .whole));
@@ -227,7 +227,7 @@ stopped-after {s = s} solid (Event.slot bit) spares h =
 stopped-after solid Event.reset spares h = rw (reset-leaves solid) h
 stopped-after {s = s} solid (Event.tick reading) spares h =
     dite (decLt 2047 reading) (λ high. rw (tick-passed (solid .sound) reading high) h)
-    (λ low. rw (tick-leaves solid reading (omega arith)) (stopped-ticked (s .tag .counters) reading h))
+    (λ low. rw (tick-leaves (solid .sound) reading (omega arith)) (stopped-ticked (s .tag .counters) reading h))
 
 -- after a Stop what a listing goes by stays
 stopped-run : {start : List ℕ} {es : List Conversion} {s : State} (events : List Event) → Solid s → Stopped start es (s .image)
@@ -272,7 +272,7 @@ listed-run {start} {readings} {s} (Event.tick reading ∷ events) solid h always
     (λ low.
     let small = leb-true reading 2047 low in
     rw (← append-snoc readings reading (missionTicks (after s (Event.tick reading)) events))
-    (listed-run {readings = readings ++ reading ∷ []} events next (rw (tick-leaves solid reading small) (holds-ticked h reading small)) (always .1)))
+    (listed-run {readings = readings ++ reading ∷ []} events next (rw (tick-leaves (solid .sound) reading small) (holds-ticked h reading small)) (always .1)))
     (λ high. listed-run {readings = readings} events next (rw (tick-passed (solid .sound) reading (leb-false reading 2047 high)) h) (always .1))
 listed-run {readings = readings} (Event.reset ∷ events) solid h always =
     listed-run {readings = readings} events (solid-after solid Event.reset) (rw (reset-leaves solid) h) (always .1)

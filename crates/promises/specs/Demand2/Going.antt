@@ -34,7 +34,7 @@ holds-run {start} {readings} {s} (Event.tick reading ∷ events) solid h going =
     (λ low.
     let small = leb-true reading 2047 low in
     rw (← append-snoc readings reading (missionTicks (after s (Event.tick reading)) events))
-    (holds-run {readings = readings ++ reading ∷ []} events next (rw (tick-leaves solid reading small) (holds-ticked h reading small)) (going .1)))
+    (holds-run {readings = readings ++ reading ∷ []} events next (rw (tick-leaves (solid .sound) reading small) (holds-ticked h reading small)) (going .1)))
     (λ high. holds-run {readings = readings} events next (rw (tick-passed (solid .sound) reading (leb-false reading 2047 high)) h) (going .1))
 holds-run {readings = readings} (Event.reset ∷ events) solid h going =
     holds-run {readings = readings} events (solid-after solid Event.reset) (rw (reset-leaves solid) h) (going .1)

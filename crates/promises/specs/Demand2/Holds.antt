@@ -39,7 +39,7 @@ pub record Listed (start : List ℕ) (es : List Conversion) (image : List ℕ) :
   pub flags : Registers.suta start ≡ true → (Registers.thf image || Registers.tlf image) ≡ not (isNone es)
   pub stamp : stampOf image ≡ History.stamp (settingsOf start) es
   pub entries : (k : ℕ) → k < length es → length es ≤ k + conversion.places start
-      → conversion.entryAt image (k % conversion.places start) ≡ History.kept (settingsOf start) (getD es k none .reading)
+      → conversion.entryAt image (k % conversion.places start) ≡ History.kept (settingsOf start) k (getD es k none .reading)
 
 -- while the mission runs, t ticks after Start
 pub record Running (start : List ℕ) (es : List Conversion) (t : ℕ) (image : List ℕ) (c : Counters) : Type 0 where

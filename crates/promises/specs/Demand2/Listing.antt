@@ -25,7 +25,6 @@ use Rattle.image.specs.Registers
 use Rattle.image.specs.Sent.{sentAt}
 use Rattle.image.specs.Sent.Laws.{sent-code}
 use Rattle.conversion.specs.Conversion as conversion
-use Rattle.mission.specs.Mission
 use Rattle.conversion.specs.Conversion.Settings.{places-same}
 use Rattle.record.specs.Record.{goodCode}
 use Rattle.promises.specs.Demand2.Dumped.{sixBytes, ehss-sent, etl-sent, ro-sent, suta-sent, tlf-sent, thf-sent, memclr-sent, places-sent, reading-sent, samples-sent, stamp-sent, rate-sent, dump-agrees}
@@ -155,8 +154,8 @@ module _ {start : List ℕ} {es : List Conversion} {image : List ℕ} (p : Liste
 
       pub temperature-read : (i : ℕ) → i < min (length es) (conversion.places start)
           → getD (temperaturesOf (dumpOf image code) lent) i (pos 0)
-          ≡ Entries.temperatureOf code
-          (History.kept (settingsOf start) (getD es (length es - min (length es) (conversion.places start) + i) none .reading))
+          ≡ (let k = length es - min (length es) (conversion.places start) + i in
+          Entries.temperatureOf code (History.kept (settingsOf start) k (getD es k none .reading)))
       temperature-read i h =
           let k = length es - min (length es) (conversion.places start) + i in
           memory-temperature (dumpOf image code) (sentAt image code) lines same kept can lent fits i (rw held-read h)

@@ -47,14 +47,14 @@ page =
     0x00 ∷ 0x54 ∷  -- 0208h thresholds
     0x00 ∷ 0x00 ∷ 0x00 ∷ 0x00 ∷ 0x00 ∷ 0x00 ∷
     0x02 ∷ 0x00 ∷  -- 0210h ETHA
-    0x02 ∷ 0x21 ∷  -- 0212h EHSS; 0213h ETL and SUTA
+    0x02 ∷ 0x25 ∷  -- 0212h EHSS; 0213h ETL, TLFS and SUTA
     0x00 ∷ 0x00 ∷
     0x01 ∷ 0x00 ∷ 0x00 ∷  -- 0216h delay
     replicate 7 0x00
 
 -- a minute of readings that would alarm; then a conversion every other second: one below the threshold, then three that are logged
 abbrev pub readings : List ℕ
-readings = replicate 60 900 ++ (671 ∷ 900 ∷ 672 ∷ 900 ∷ 687 ∷ 900 ∷ 7 ∷ 900 ∷ [])
+readings = replicate 60 900 ++ (671 ∷ 900 ∷ 679 ∷ 900 ∷ 687 ∷ 900 ∷ 7 ∷ 900 ∷ [])
 
 -- the owner of a new tag, which checks no password, writes the registers and copies them, clears and starts, each after a reset and
 -- Skip; then come the ticks
@@ -91,8 +91,8 @@ pub record ListedSo (new : State) : Type 0 where
         suta = true;
       }
   pub seconds : map (secondsAt (listingOf (dumped new) 4)) (0 ∷ 1 ∷ 2 ∷ []) ≡ negsuc 1 ∷ pos 0 ∷ pos 2 ∷ []
-  -- 672, 680 and 0 are what the format keeps of the readings
-  pub temperatures : temperaturesOf (dumped new) lent ≡ pos 16 ∷ pos 24 ∷ negsuc 655 ∷ pos 9 ∷ []
+  -- 672, 687 and 7 are what the log keeps of the readings: of entry 0, which ended the wait, eight bits, of the others eleven
+  pub temperatures : temperaturesOf (dumped new) lent ≡ pos 16 ∷ pos 31 ∷ negsuc 648 ∷ pos 9 ∷ []
 
 -- of an L with the ROM 41 2B C5 FB 00 00 00 A1, whatever the lent image held
 abbrev pub MissionListed : Type 0

@@ -1,6 +1,6 @@
 -- A tick of a running mission is one more tick of its history. Assumes nothing.
 use mathlib.Core.Path.{_≡_, refl, sym, _∙_}
-use mathlib.Core.Bool.{Bool, true, false, not, _&&_, false≢true}
+use mathlib.Core.Bool.{Bool, true, false, not, _&&_}
 use mathlib.Core.List.{List, [], _∷_, _++_, append-nil}
 use mathlib.Core.Logic.{dite}
 use Prim.Native.Nat.{ℕ, _+_, _%_, _≤_, _<_}
@@ -14,17 +14,16 @@ use lib.ListN.{length, getD, length-append, List·getD-append}
 use lib.Seq.{getD-append-seam}
 use Rattle.bits.specs.Choose.{if_then_else_}
 use Rattle.calendar.specs.Calendar.{nextSecond, clockAfter}
-use Rattle.image.specs.Leaves.{Leaves, leaves-same, leaves-then, leaves-choice, leaves-wider, leaves-putWord}
 use Rattle.image.specs.Registers
 use Rattle.conversion.specs.Clock.{clockOf, clocked}
-use Rattle.conversion.specs.Clock.Laws.{clock-kept, leaves-clocked}
+use Rattle.conversion.specs.Clock.Laws.{clock-kept}
 use Rattle.conversion.specs.Conversion as conversion
 use Rattle.mission.specs.Mission
-use Rattle.conversion.specs.Conversion.Converts.{Converts, waiting-same}
+use Rattle.conversion.specs.Conversion.Converts.{Converts, waiting-same, taken-le, logs-taken}
 use Rattle.conversion.specs.Conversion.Converts as Conversions
 use Rattle.mission.specs.Mission.Frames.{leaves-missionTicked, leaves-ticked}
 use Rattle.conversion.specs.Conversion.Settings.{settings-left, settings-then, places-same, resolved-same, alarms-same}
-use Rattle.mission.specs.Mission.Ticks.{clock-clocked, ticked-delaying, ticked-between, ticked-ended, converts-ticked}
+use Rattle.mission.specs.Mission.Ticks.{clock-clocked, leaves-quiet, converts-ticked}
 use Rattle.mission.specs.Mission.Times.{due-time, on-time-ticked}
 use Rattle.mission.specs.Mission.Whole.{whole-ticked}
 use Rattle.mission.specs.declared.Counters.{Counters}
@@ -81,39 +80,36 @@ module _ {start image : List ℕ} {es : List Conversion} {t : ℕ} {c : Counters
 
     -- ---- a tick that makes no conversion
 
-    pub quiet : (Mission.due image c && not (conversion.ended image)) ≡ false
-        → Leaves ((0x0200, 6) ∷ (0x0216, 3) ∷ []) [] image (Mission.ticked image c reading)
-    quiet e = by-tests (Mission.delaying image) (Mission.due image c) (conversion.ended image) refl refl refl e
-      where
-        by-tests : (d u f : Bool) → Mission.delaying image ≡ d → Mission.due image c ≡ u → conversion.ended image ≡ f → (u && not f) ≡ false
-            → Leaves ((0x0200, 6) ∷ (0x0216, 3) ∷ []) [] image (Mission.ticked image c reading)
-        by-tests true u f x y z e =
-            rw (ticked-delaying image c reading x)
-            (leaves-then (leaves-wider tt (leaves-clocked image))
-            (leaves-choice (Mission.minuteOver c) (leaves-wider tt (leaves-putWord _ 0x0216 3 _)) leaves-same))
-        by-tests false false f x y z e = rw (ticked-between image c reading x y) (leaves-wider tt (leaves-clocked image))
-        by-tests false true true x y z e = rw (ticked-ended image c reading y z) (leaves-wider tt (leaves-clocked image))
-        by-tests false true false x y z e = absurd (false≢true (sym e))
-
     listed-quiet : (Mission.due image c && not (conversion.ended image)) ≡ false → Listed start es (Mission.ticked image c reading)
     listed-quiet e =
-        let l = quiet e in
+        let l = leaves-quiet image c reading e in
         listed-left l (settings-left l tt tt tt tt tt) (whole-ticked c reading (p .whole)) tt tt tt tt tt tt tt tt tt p
 
     waiting-quiet : (Mission.due image c && not (conversion.ended image)) ≡ false
         → conversion.waiting (Mission.ticked image c reading) ≡ Registers.suta start && isNone es
     waiting-quiet e =
-        let l = quiet e in
+        let l = leaves-quiet image c reading e in
         waiting-same (settings-left l tt tt tt tt tt) (l .bits 0x0215 4 tt tt tt) ∙ q .waiting
 
     -- ---- a conversion that is made
 
-    logs-of : Conversions.logs image reading ≡ logs (settingsOf start) es reading
+    -- the reading that it takes
+    abbrev result : ℕ
+    result = conversion.taken image reading
+
+    logs-of : Conversions.logs image result ≡ logs (settingsOf start) es reading
     unfolding Conversions.logs logs
-    logs-of = rw (q .waiting, alarms-same (p .settings) reading, alarms-of start reading, suta-of start)
+    logs-of = logs-taken image reading ∙ rw (q .waiting, alarms-same (p .settings) reading, alarms-of start reading, suta-of start)
+
+    -- is what the log keeps of the next entry's
+    kept-result : reading ≤ 2047 → conversion.resolved image (result % 2048) ≡ History.kept (settingsOf start) (length es) reading
+    unfolding conversion.taken
+    kept-result small =
+        let whole : result % 2048 ≡ result = omega (arith, taken-le image reading) in
+        rw (whole, resolved-same (p .settings) result, q .waiting, none-length es, kept-of start (length es) reading)
 
     module _ (small : reading ≤ 2047) (due : Mission.due image c ≡ true) (going : conversion.ended image ≡ false) where
-      made : Converts image (if Registers.eosc image then nextSecond (clockOf image) else clockOf image) reading (Mission.ticked image c reading)
+      made : Converts image (if Registers.eosc image then nextSecond (clockOf image) else clockOf image) result (Mission.ticked image c reading)
       made = converts-ticked image c reading (p .whole) due going
 
       kept-general : Registers.memclr (Mission.ticked image c reading) ≡ false
@@ -126,16 +122,16 @@ module _ {start image : List ℕ} {es : List Conversion} {t : ℕ} {c : Counters
       listed-unlogged : logs (settingsOf start) es reading ≡ false → Listed start es (Mission.ticked image c reading)
       unfolding Conversions.logs conversion.alarms
       listed-unlogged e =
-          let unlogged : Conversions.logs image reading ≡ false = logs-of ∙ e in
-          let waits = unlogged-waits (conversion.waiting image) (conversion.alarms image reading) unlogged in
-          let quiet = unlogged-quiet (conversion.waiting image) (conversion.alarms image reading) unlogged in
+          let unlogged : Conversions.logs image result ≡ false = logs-of ∙ e in
+          let waits = unlogged-waits (conversion.waiting image) (conversion.alarms image result) unlogged in
+          let quiet = unlogged-quiet (conversion.waiting image) (conversion.alarms image result) unlogged in
           record {
             whole = whole-ticked c reading (p .whole);
             memclr = kept-general;
             settings = settings-then (p .settings) (made .settings);
             samples = made .log .missionSamples ∙ rw waits (p .samples);
             flags = λ s. rw (made .thf, made .tlf)
-                (flags-same (conversion.alarmsHigh image reading) (conversion.alarmsLow image reading) (Registers.thf image) (Registers.tlf image) quiet ∙ p .flags s);
+                (flags-same (conversion.alarmsHigh image result) (conversion.alarmsLow image result) (Registers.thf image) (Registers.tlf image) quiet ∙ p .flags s);
             stamp = made .log .stamp ∙ rw waits (p .stamp);
             entries = λ k lt ge. made .log .entries (k % conversion.places start) (place-lt k) ∙ rw unlogged (p .entries k lt ge);
           }
@@ -150,30 +146,23 @@ module _ {start image : List ℕ} {es : List Conversion} {t : ℕ} {c : Counters
 
         entry-at : (k : ℕ) → k < length (es ++ next ∷ []) → length (es ++ next ∷ []) ≤ k + conversion.places start
             → conversion.entryAt (Mission.ticked image c reading) (k % conversion.places start)
-            ≡ History.kept (settingsOf start) (getD (es ++ next ∷ []) k none .reading)
+            ≡ History.kept (settingsOf start) k (getD (es ++ next ∷ []) k none .reading)
         entry-at k lt ge =
             made .log .entries (k % conversion.places start) (place-lt k)
             ∙ rw (logs-of ∙ e, nextEntry-of, places-same (p .settings)) (dite (ℕ-discrete k (length es)) last earlier)
           where
             last : k ≡ length es
-                → (if eqb (k % conversion.places start) (length es % conversion.places start) then conversion.resolved image (reading % 2048)
+                → (if eqb (k % conversion.places start) (length es % conversion.places start) then conversion.resolved image (result % 2048)
                 else conversion.entryAt image (k % conversion.places start))
-                ≡ History.kept (settingsOf start) (getD (es ++ next ∷ []) k none .reading)
+                ≡ History.kept (settingsOf start) k (getD (es ++ next ∷ []) k none .reading)
             last same =
-                let whole : reading % 2048 ≡ reading = omega arith in
-                rw (
-                  same,
-                  eq-eqb (length es % conversion.places start) (length es % conversion.places start) refl,
-                  whole,
-                  resolved-same (p .settings) reading,
-                  getD-append-seam es next [] none,
-                  kept-of start reading,
-                )
+                rw (same, eq-eqb (length es % conversion.places start) (length es % conversion.places start) refl, getD-append-seam es next [] none)
+                (kept-result small)
 
             earlier : (k ≡ length es → ⊥)
-                → (if eqb (k % conversion.places start) (length es % conversion.places start) then conversion.resolved image (reading % 2048)
+                → (if eqb (k % conversion.places start) (length es % conversion.places start) then conversion.resolved image (result % 2048)
                 else conversion.entryAt image (k % conversion.places start))
-                ≡ History.kept (settingsOf start) (getD (es ++ next ∷ []) k none .reading)
+                ≡ History.kept (settingsOf start) k (getD (es ++ next ∷ []) k none .reading)
             earlier other =
                 let n : length (es ++ next ∷ []) ≡ length es + 1 = length-append es (next ∷ []) in
                 let before : k < length es = omega arith in
@@ -194,7 +183,7 @@ module _ {start image : List ℕ} {es : List Conversion} {t : ℕ} {c : Counters
                   ∙ rw (q .waiting, length-append es (next ∷ []))
                   (count-more (Registers.suta start) (isNone es) (length es) (Registers.missionSamples image) (sym (none-length es)) (p .samples));
               flags = λ s. rw (made .thf, made .tlf, some)
-                  (flags-more (conversion.alarmsHigh image reading) (conversion.alarmsLow image reading) (Registers.thf image) (Registers.tlf image) (isNone es)
+                  (flags-more (conversion.alarmsHigh image result) (conversion.alarmsLow image result) (Registers.thf image) (Registers.tlf image) (isNone es)
                   (p .flags s)
                   (rw (q .waiting, s) at (logs-of ∙ e)));
               stamp = made .log .stamp
@@ -207,14 +196,14 @@ module _ {start image : List ℕ} {es : List Conversion} {t : ℕ} {c : Counters
         unfolding conversion.waiting Conversions.logs
         waiting-logged =
             rw (made .log .wfta, made .settings .suta, some, ← p .settings .suta)
-            (waits-no-more (Registers.suta image) (Registers.wfta image) (conversion.alarms image reading) (logs-of ∙ e))
+            (waits-no-more (Registers.suta image) (Registers.wfta image) (conversion.alarms image result) (logs-of ∙ e))
 
       waiting-unlogged : logs (settingsOf start) es reading ≡ false
           → conversion.waiting (Mission.ticked image c reading) ≡ Registers.suta start && isNone es
       unfolding conversion.waiting Conversions.logs
       waiting-unlogged e =
           rw (made .log .wfta, made .settings .suta)
-          (waits-on (Registers.suta image) (Registers.wfta image) (conversion.alarms image reading) (logs-of ∙ e))
+          (waits-on (Registers.suta image) (Registers.wfta image) (conversion.alarms image result) (logs-of ∙ e))
           ∙ q .waiting
 
     -- ---- one more tick

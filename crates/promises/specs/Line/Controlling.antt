@@ -5,7 +5,7 @@ use mathlib.Core.Path.{_≡_, refl, sym, ap, _∙_}
 use mathlib.Core.Bool.{Bool, true, false, _||_}
 use mathlib.Core.List.{List, [], _∷_, _++_}
 use mathlib.Core.Logic.{_≢_}
-use Prim.Native.Nat.{ℕ, _+_, _/_, _%_, _^_, _≤_, _<_, min}
+use Prim.Native.Nat.{ℕ, _+_, _*_, _%_, _^_, _≤_, _<_, min}
 use native.Mathlib.Omega.{arith}
 use borrow.Author.Tests.{eq-eqb}
 use lib.Dec.{eqb}
@@ -72,7 +72,7 @@ pub record Stopped (before after : List ℕ) : Type 0 where
 -- "Forced Conversion, no mission only: takes the last tick's reading (0 before any) to 11 bits, counts in device samples, sets EOSC, clears
 -- WFTA if it alarms; no flag is set"
 pub record Forced (reading : ℕ) (before after : List ℕ) : Type 0 where
-  pub latest : wordAt after 0x020C 2 / 32 ≡ reading
+  pub latest : wordAt after 0x020C 2 ≡ 32 * reading
   pub device : wordAt after 0x0223 3 ≡ min (wordAt before 0x0223 3 + 1) 0xFFFFFF
   pub eosc : flagAt after 0x0212 0 ≡ true
   pub wfta : flagAt after 0x0215 4 ≡ if highAlarm before reading || lowAlarm before reading then false else flagAt before 0x0215 4
@@ -125,7 +125,7 @@ module _ {image : List ℕ} (whole : Whole image) where
       let done = commands.forces whole c idle in
       let fits : c .reading % 2048 ≡ c .reading = omega arith in
       record {
-        latest = done .latest ∙ fits;
+        latest = rw fits at (done .latest);
         device = done .deviceSamples;
         eosc = done .eosc;
         wfta = done .wfta;

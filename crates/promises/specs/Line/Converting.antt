@@ -5,7 +5,7 @@
 use mathlib.Core.Path.{_≡_, refl, ap, _∙_}
 use mathlib.Core.Bool.{Bool, true, false, not, _&&_, _||_, and-false}
 use mathlib.Core.List.{List, [], _∷_}
-use mathlib.Core.Logic.{_⊎_, ⊎-elim, dite}
+use mathlib.Core.Logic.{_⊎_, inl, inr, ⊎-elim, dite}
 use Prim.Native.Nat.{ℕ, _+_, _-_, _*_, _/_, _%_, _≤_, _<_, min}
 use native.Mathlib.Decide.{decLe}
 use native.Mathlib.Omega.{arith}
@@ -13,6 +13,7 @@ use borrow.Author.Tests.{lt-leb, le-leb}
 use lib.Dec.{eqb, leb}
 use lib.ListN.{length, getD}
 use Rattle.answer.specs.declared.Answer.{Answer}
+use Rattle.bits.specs.Bytes.{Bytes}
 use Rattle.bits.specs.Choose.{if_then_else_, choice}
 use Rattle.calendar.specs.Calendar.{nextSecond}
 use Rattle.calendar.specs.declared.Clock.{Clock}
@@ -23,11 +24,12 @@ use Rattle.conversion.specs.Clock.{clockOf, clocked}
 use Rattle.conversion.specs.Clock.Laws.{clock-kept, leaves-clocked}
 use Rattle.conversion.specs.Conversion as conversion
 use Rattle.mission.specs.Mission
-use Rattle.conversion.specs.Conversion.Converts.{Converts, logs}
+use Rattle.conversion.specs.Conversion.Converts.{Converts, logs, taken-le, eighths-taken, high-taken, low-taken, alarms-taken, logs-taken}
 use Rattle.conversion.specs.Conversion.Frames.{leaves-converted}
 use Rattle.conversion.specs.Conversion.Reads.{byteLogged}
+use Rattle.conversion.specs.Conversion.Whole.{Whole}
 use Rattle.mission.specs.Mission.Frames.{leaves-missionTicked}
-use Rattle.mission.specs.Mission.Ticks.{clock-clocked, ticked-idle, ticked-due, converts-ticked}
+use Rattle.mission.specs.Mission.Ticks.{clock-clocked, ticked-idle, ticked-due, leaves-quiet, converts-ticked}
 use Rattle.mission.specs.declared.Counters.{Counters}
 use Rattle.event.specs.Event.{performedCounters, slotted, resetTag, tickTag}
 use Rattle.tag.specs.Tag.{newTag}
@@ -37,9 +39,9 @@ use Rattle.promises.specs.Demand2.Course.{Solid, reached-solid, starts-a
 use Rattle.promises.specs.Demand2.Events.{Starts, missionTicks}
 use Rattle.promises.specs.Demand2.Holds.{Holds}
 use Rattle.promises.specs.Demand2.Going.{Going, holds-run}
-use Rattle.promises.specs.Demand2.Ticks.{due-of, ended-of, nextEntry-of, quiet}
+use Rattle.promises.specs.Demand2.Ticks.{due-of, ended-of, nextEntry-of}
 use Rattle.promises.specs.History
-use Rattle.promises.specs.History.Laws.{history-le}
+use Rattle.promises.specs.History.Laws.{isNone, history-le}
 use Rattle.promises.specs.Line.Slots.{line-event}
 use Rattle.promises.specs.Runs.{State, Event, after, lineBit, run, Reached, Always}
 use Rattle.promises.specs.Runs.Laws.{Sound, reached-sound, sound-after, slot-happens, reset-happens, tick-happens, tick-refused}
@@ -58,7 +60,19 @@ lowAlarm image reading = flagAt image 0x0210 0 && leb (reading / 8) (getD image 
 abbrev pub waits : List ℕ → Bool
 waits image = flagAt image 0x0213 5 && flagAt image 0x0215 4
 
+-- "While it waits for an alarm, the device converts to 8 bits only" (request #102): the reading as a conversion takes it
+abbrev pub taken : List ℕ → ℕ → ℕ
+taken image reading = if waits image then reading / 8 * 8 else reading
+
 -- ---- the log
+
+-- the number of the next entry: "Without SUTA every conversion is logged"; with it the one that alarms is entry 0, "uncounted", and "the next
+-- is entry 1". Mission samples are 0220h, 3 bytes
+abbrev pub entryNumber : List ℕ → ℕ
+entryNumber image =
+    if waits image then 0
+    else if flagAt image 0x0213 5 then wordAt image 0x0220 3 + 1
+    else wordAt image 0x0220 3
 
 -- "Entry k lies at place k mod 8192 (one byte, reading divided by 8) or k mod 4096 (two bytes, as 020Dh then 020Ch)": "020Ch reading bits
 -- 2-0 in bits 7-5, 020Dh bits 10-3". Byte j of the log when entry k is logged, where it was `old`
@@ -76,8 +90,9 @@ logByte tlfs k reading j old =
 pub record Converted (k reading : ℕ) (before after : List ℕ) : Type 0 where
   -- "adds 1 to device samples"; "Device samples stays at FFFFFFh"
   pub device : wordAt after 0x0223 3 ≡ min (wordAt before 0x0223 3 + 1) 0xFFFFFF
-  -- "stores the latest reading (low three bits 0 with TLFS 0)": "020Ch reading bits 2-0 in bits 7-5, 020Dh bits 10-3"
-  pub latest : wordAt after 0x020C 2 / 32 ≡ if flagAt before 0x0213 2 then reading else reading / 8 * 8
+  -- "stores the latest reading (low three bits 0 with TLFS 0)", and "of every waiting conversion" (#102): "020Ch reading bits 2-0 in bits 7-5,
+  -- 020Dh bits 10-3"
+  pub latest : wordAt after 0x020C 2 ≡ 32 * (if flagAt before 0x0213 2 then taken before reading else reading / 8 * 8)
   -- "and sets THF or TLF"
   pub thf : flagAt after 0x0214 1 ≡ highAlarm before reading || flagAt before 0x0214 1
   pub tlf : flagAt after 0x0214 0 ≡ lowAlarm before reading || flagAt before 0x0214 0
@@ -91,32 +106,46 @@ pub record Converted (k reading : ℕ) (before after : List ℕ) : Type 0 where
   pub log : (j : ℕ) → j < 8192 →
       getD after (640 + j) 0
       ≡ if not (waits before) || (highAlarm before reading || lowAlarm before reading) then
-      logByte (flagAt before 0x0213 2) k reading j (getD before (640 + j) 0)
+      logByte (flagAt before 0x0213 2) k (taken before reading) j (getD before (640 + j) 0)
       else getD before (640 + j) 0
   -- beside these only the clock and the stamp
   pub rest : Leaves ((0x0200, 6) ∷ (0x020C, 2) ∷ (0x0219, 6) ∷ (0x0220, 3) ∷ (0x0223, 3) ∷ (640, 8192) ∷ [])
       ((0x0214, 0) ∷ (0x0214, 1) ∷ (0x0215, 4) ∷ []) before after
 
 -- from what the mission's laws say of it
-converted-by : {before after : List ℕ} {clock : Clock} (reading : ℕ) → reading ≤ 2047 → Converts before clock reading after →
+converted-by : {before after : List ℕ} {clock : Clock} (reading : ℕ) → reading ≤ 2047 →
+    Converts before clock (conversion.taken before reading) after →
     Leaves ((0x0200, 6) ∷ (0x020C, 2) ∷ (0x0219, 6) ∷ (0x0220, 3) ∷ (0x0223, 3) ∷ (640, 8192) ∷ [])
     ((0x0214, 0) ∷ (0x0214, 1) ∷ (0x0215, 4) ∷ []) before after →
     Converted (conversion.nextEntry before) reading before after
 unfolding conversion.resolved conversion.alarms conversion.alarmsHigh conversion.alarmsLow conversion.isHigh conversion.isLow conversion.waiting
-    logs byteLogged logByte
-converted-by reading small made left =
-    let whole : reading % 2048 ≡ reading = omega arith in
-    let byte : reading / 8 % 256 ≡ reading / 8 = omega arith in
+    conversion.taken logs byteLogged logByte
+converted-by {before} reading small made left =
+    let result = conversion.taken before reading in
+    let whole : result % 2048 ≡ result = omega (arith, taken-le before reading) in
+    let byte : result / 8 % 256 ≡ result / 8 = omega (arith, taken-le before reading) in
+    let eighths : result / 8 ≡ reading / 8 = eighths-taken before reading in
     record {
       device = made .deviceSamples;
-      latest = rw whole at (made .latest);
-      thf = made .thf;
-      tlf = made .tlf;
+      latest = rw (whole, eighths) at (made .latest);
+      thf = made .thf ∙ rw (high-taken before reading);
+      tlf = made .tlf ∙ rw (low-taken before reading);
       samples = made .log .missionSamples;
-      wfta = made .log .wfta;
-      log = λ j h. rw byte at (made .log .bytes j h);
+      wfta = made .log .wfta ∙ rw (alarms-taken before reading);
+      log = λ j h. rw (byte, logs-taken before reading) at (made .log .bytes j h);
       rest = left;
     }
+
+-- a tick that makes a conversion
+converted-tick : {s : State} → Sound s → Bytes (s .image) → (reading : ℕ) → reading ≤ 2047 →
+    Mission.due (s .image) (s .tag .counters) ≡ true → conversion.ended (s .image) ≡ false →
+    Converted (conversion.nextEntry (s .image)) reading (s .image) (after s (Event.tick reading) .image)
+converted-tick {s} sound bytes reading small due going =
+    let whole : Whole (s .image) = record { size = sound .size; bytes = bytes } in
+    rw (tick-leaves sound reading small)
+    (converted-by reading small (converts-ticked (s .image) (s .tag .counters) reading whole due going)
+    (rw (ticked-due (s .image) (s .tag .counters) reading due)
+    (leaves-then (leaves-wider tt (leaves-clocked (s .image))) (leaves-wider tt (leaves-converted _ reading)))))
 
 -- ---- the last tick's reading, which a Forced Conversion takes
 
@@ -168,7 +197,7 @@ module _ {s : State} (reached : Reached s) (reading : ℕ) (small : reading ≤ 
       ≡ if flagAt (s .image) 0x0212 0 then nextSecond (clockOf (s .image)) else clockOf (s .image)
   unfolding Mission.ticked
   ticks-clock =
-      rw (tick-leaves (reached-solid reached) reading small)
+      rw (tick-leaves (reached-sound reached) reading small)
       (clock-kept (leaves-missionTicked (clocked (s .image)) (s .tag .counters) reading .keeps) tt
       ∙ clock-clocked (s .image) (omega (arith, reached-solid reached .whole .size)))
 
@@ -183,8 +212,33 @@ module _ {s : State} (reached : Reached s) (reading : ℕ) (small : reading ≤ 
   -- "Then, in a mission": with none, MIP (bit 1 of 0215h) 0, a tick does nothing else
   pub ticks-idle : flagAt (s .image) 0x0215 1 ≡ false → Leaves ((0x0200, 6) ∷ []) [] (s .image) (after s (Event.tick reading) .image)
   ticks-idle idle =
-      rw (tick-leaves (reached-solid reached) reading small, ticked-idle (s .image) (s .tag .counters) reading idle)
+      rw (tick-leaves (reached-sound reached) reading small, ticked-idle (s .image) (s .tag .counters) reading idle)
       (leaves-clocked (s .image))
+
+-- of any record and image that no event refuses, reached or not: no conversion is made, and only the clock and the delay move, or one is. In
+-- a mission `mission-converts` and `mission-rests` say when
+module _ {s : State} (sound : Sound s) (bytes : Bytes (s .image)) (reading : ℕ) (small : reading ≤ 2047) where
+  pub ticks-either : Leaves ((0x0200, 6) ∷ (0x0216, 3) ∷ []) [] (s .image) (after s (Event.tick reading) .image)
+      ⊎ Converted (entryNumber (s .image)) reading (s .image) (after s (Event.tick reading) .image)
+  unfolding conversion.nextEntry conversion.waiting
+  ticks-either = by-tests (Mission.due image counters) (conversion.ended image) refl refl
+    where
+      image : List ℕ
+      image = s .image
+
+      counters : Counters
+      counters = s .tag .counters
+
+      none : (Mission.due image counters && not (conversion.ended image)) ≡ false →
+          Leaves ((0x0200, 6) ∷ (0x0216, 3) ∷ []) [] image (after s (Event.tick reading) .image)
+      none quiet = rw (tick-leaves sound reading small) (leaves-quiet image counters reading quiet)
+
+      by-tests : (d f : Bool) → Mission.due image counters ≡ d → conversion.ended image ≡ f →
+          Leaves ((0x0200, 6) ∷ (0x0216, 3) ∷ []) [] image (after s (Event.tick reading) .image)
+          ⊎ Converted (entryNumber image) reading image (after s (Event.tick reading) .image)
+      by-tests true false due going = inr (converted-tick sound bytes reading small due going)
+      by-tests true true due ended = inl (none (rw (due, ended)))
+      by-tests false f due ended = inl (none (rw due))
 
 -- ---- a tick of a mission
 
@@ -208,6 +262,11 @@ module _ {s : State} (e : Event) (events : List Event) (reached : Reached s) (st
   pub mission-delay : wordAt (there .image) 0x0216 3 ≡ wordAt (begun .image) 0x0216 3 - length readings / 60
   mission-delay = holding .1 .running .time .left
 
+  -- "With SUTA nothing is logged until a conversion alarms": while there is no entry the tag waits, and only then
+  pub mission-waits : waits (there .image) ≡ settingsOf (begun .image) .suta && isNone (History.history (settingsOf (begun .image)) readings)
+  unfolding conversion.waiting settingsOf flagAt
+  mission-waits = holding .1 .running .waiting
+
   -- the next tick
   module _ (reading : ℕ) (small : reading ≤ 2047) where
     -- at a conversion time, while conversions have not ended
@@ -219,13 +278,8 @@ module _ {s : State} (e : Event) (events : List Event) (reached : Reached s) (st
         let running = holding .1 .running in
         let due = due-of listed running ∙ time in
         let most = History.most (settingsOf (begun .image)) in
-        let ended = ended-of listed running (history-le (settingsOf (begun .image)) readings) ∙ lt-leb most _ more in
-        let image = there .image in
-        let counters = there .tag .counters in
-        rw (tick-leaves (holding .0) reading small, ← nextEntry-of listed running)
-        (converted-by reading small (converts-ticked image counters reading (listed .whole) due ended)
-        (rw (ticked-due image counters reading due)
-        (leaves-then (leaves-wider tt (leaves-clocked image)) (leaves-wider tt (leaves-converted _ reading)))))
+        let going = ended-of listed running (history-le (settingsOf (begun .image)) readings) ∙ lt-leb most _ more in
+        rw (← nextEntry-of listed running) (converted-tick (holding .0 .sound) (holding .0 .whole .bytes) reading small due going)
 
     -- at any other, and when conversions have ended, only the clock and the delay move
     pub mission-rests :
@@ -240,4 +294,4 @@ module _ {s : State} (e : Event) (events : List Event) (reached : Reached s) (st
         let idle : (Mission.due (there .image) (there .tag .counters) && not (conversion.ended (there .image))) ≡ false =
         ⊎-elim (λ (untimely : History.isTime (settingsOf (begun .image)) (length readings + 1) ≡ false). rw (due-of listed running ∙ untimely))
         (λ full. rw (ended ∙ le-leb most _ full) (simp and-false)) none in
-        rw (tick-leaves (holding .0) reading small) (quiet listed running reading idle)
+        rw (tick-leaves (holding .0 .sound) reading small) (leaves-quiet (there .image) (there .tag .counters) reading idle)

@@ -115,7 +115,7 @@ unfolding History.places
 enough = omega arith
 
 abbrev shown : List ℤ
-shown = pos 16 ∷ pos 24 ∷ negsuc 655 ∷ pos 9 ∷ []
+shown = pos 16 ∷ pos 31 ∷ negsuc 648 ∷ pos 9 ∷ []
 
 place-at : (i : ℕ) → i < 4 → getD (temperaturesOf (dumped made) lent) i (pos 0) ≡ getD shown i (pos 0)
 unfolding History.places History.kept History.temperature

@@ -44,7 +44,7 @@ ticks-all s (r ∷ rs) small =
 -- ---- the mission's
 
 abbrev pub entries : List Conversion
-entries = record { tick = 63; reading = 672 } ∷ record { tick = 65; reading = 687 } ∷ record { tick = 67; reading = 7 } ∷ []
+entries = record { tick = 63; reading = 679 } ∷ record { tick = 65; reading = 687 } ∷ record { tick = 67; reading = 7 } ∷ []
 
 pub history-is : History.history settings readings ≡ entries
 unfolding History.history History.most History.places History.toLog History.fromAlarm History.alarms History.conversionsFrom History.isTime History.period

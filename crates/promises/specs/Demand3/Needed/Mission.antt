@@ -24,6 +24,7 @@ use Rattle.image.specs.Stored.{blend, storedByte, storedRun}
 use Rattle.image.specs.Stored.Laws.{keeps-storedRun, storedRun-at}
 use Rattle.image.specs.Tables.{writable}
 use Rattle.conversion.specs.Conversion as conversion
+use Rattle.conversion.specs.Conversion.Converts.{high-taken}
 use Rattle.mission.specs.Mission
 use Rattle.mission.specs.Mission.Commands as commands
 use Rattle.mission.specs.Mission.Frames.{leaves-cleared, leaves-started, mip-cleared}
@@ -113,9 +114,9 @@ module _ {keys : List ℕ} {s : State} (p : UnderWay keys s) (reading : ℕ) (lo
   warm-flag : Registers.thf (warm .image) ≡ true
   unfolding conversion.alarmsHigh conversion.isHigh
   warm-flag =
-      rw (tick-leaves solid reading low)
+      rw (tick-leaves (solid .sound) reading low)
       (converts-ticked (s .image) (s .tag .counters) reading (solid .whole) due going .thf
-      ∙ rw (p .sails .etha, p .sails .high, le-leb 0 (reading / 8) (omega arith)))
+      ∙ rw (high-taken (s .image) reading, p .sails .etha, p .sails .high, le-leb 0 (reading / 8) (omega arith)))
 
   warm-alarmed : alarmed (warm .image) ≡ true
   unfolding alarmed
@@ -125,7 +126,7 @@ module _ {keys : List ℕ} {s : State} (p : UnderWay keys s) (reading : ℕ) (lo
   warm-flagged = sym (alarmed-flag (warm .image)) ∙ warm-alarmed
 
   warm-waits : warm .tag .exchange ≡ waiting number pad
-  warm-waits = rw (tick-leaves solid reading low) (p .waits)
+  warm-waits = rw (tick-leaves (solid .sound) reading low) (p .waits)
 
   warm-sound : Sound warm
   warm-sound = sound-after (Event.tick reading) (solid .sound)
