@@ -85,7 +85,7 @@ logByte tlfs k reading j old =
     else if eqb j (k % 8192) then reading / 8
     else old
 
--- ---- what becomes of the registers and the log, when k entries are logged before it
+-- ---- what becomes of the registers and the log by a conversion whose entry, if it is logged, is k
 
 pub record Converted (k reading : ℕ) (before after : List ℕ) : Type 0 where
   -- "adds 1 to device samples"; "Device samples stays at FFFFFFh"
