@@ -116,12 +116,14 @@ def registers_read():
             ("table", {0x0212: 3}, "66 entries, one every 10 s."), ("report", {0x0212: 3}, "every 10 s, 0.0625 °C an entry"),
             ("report", {0x0213: 0xD5}, "the oldest entries are overwritten (rollover)"),
             ("report", {0x0213: 0xE5}, "upon an alarm (SUTA)"),
-            ("report", {0x0213: 0xE5}, "0.0625 °C an entry, 0.5 °C while waiting for the alarm, which is entry 0"),
+            ("report", {0x0213: 0xE5}, "every 10 min, 0.0625 °C an entry</dd>"),
             ("report", {0x0213: 0xE1}, ", 0.5 °C an entry</dd>"), ("report", {0x0215: 0}, "no mission was running any more"),
             ("report", {0x0214: 0x71}, "low (TLF)"), ("report", {0x0203: 0x32}, "no date and time"),
             ("report", {0x0225: 1}, "66 in this mission, 65,602 in the tag")):
         got = shown(word, "-", stdin=with_registers(values))
         yield f"the {word} of a dump with registers {values}", says in got, got[:900]
+    got = shown("report", "examples/alarm-start.session")
+    yield "the report of an alarm start", "0.0625 °C an entry, 0.5 °C in entry 0, the alarm" in got, got[:900]
 
 
 # ---- Mending ----

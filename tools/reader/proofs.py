@@ -1,7 +1,7 @@
 """What of a page rests on a proof and what does not, in words; and what a dump's registers say of its mission."""
 
 from . import SESSION
-from .words import date_of, period_words
+from .words import begins_coarsely, date_of, period_words
 
 PROVED = (
     "Every function of the program list that judges the dump and works out and writes the listing: which entries the log holds, "
@@ -48,12 +48,12 @@ def rows(source):
     yield "Not shown", NOT_SHOWN
 
 
-def mission_rows(registers):
+def mission_rows(registers, listing):
     """What a person asks of a mission; read out of the dump by the reader."""
     clock = date_of(registers.clock)
     resolution = "0.0625 °C an entry" if registers.entry_bytes == 2 else "0.5 °C an entry"
-    if registers.entry_bytes == 2 and registers.suta:
-        resolution += ", 0.5 °C while waiting for the alarm, which is entry 0"
+    if registers.entry_bytes == 2 and begins_coarsely(listing):
+        resolution += ", 0.5 °C in entry 0, the alarm"
     yield "Sampling", f"{period_words(registers.period)}, {resolution}"
     yield "When the log is full", "the oldest entries are overwritten (rollover)" if registers.ro else "logging ends"
     yield "Start", "upon an alarm (SUTA)" if registers.suta else "at once, or after the delay that was set"

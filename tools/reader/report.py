@@ -40,7 +40,7 @@ def html(source, view, note=None):
     body += section("Summary", *summed_up(source, view))
     body += section("Temperature by time", *drawings(source, view))
     if source.registers:
-        body += section("What the dump says of the mission", pairs(proofs.mission_rows(source.registers)))
+        body += section("What the dump says of the mission", pairs(proofs.mission_rows(source.registers, source.listing)))
     body += section("What was proved, and what was not", pairs(proofs.rows(source)))
     body += ['<div class="signing"><div>Read at the dock by, date</div><div>Seen by, date</div></div>']
     body += entries(source, view)

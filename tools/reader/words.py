@@ -61,10 +61,14 @@ def log_words(listing):
     if gaps:
         words.append(f"Entries are missing in {gaps} {'place' if gaps == 1 else 'places'}: the line is broken there.")
     if entries[0].seconds < 0:
-        # An older tag kept entry 0 to the format's resolution.
-        half = ", to half a degree" if entries[0].temperature % HALF == 0 else ""
+        half = ", to half a degree" if begins_coarsely(listing) else ""
         words.append(f"Entry 0 is the alarm that started the log{half}; the stamp is that of entry 1.")
     return words
+
+
+def begins_coarsely(listing):
+    """Whether it begins with the alarm that started the log, to half a degree. An older tag kept that as finely as the others."""
+    return any(entry.seconds < 0 and entry.temperature % HALF == 0 for entry in listing.entries[:1])
 
 
 def period_words(seconds):

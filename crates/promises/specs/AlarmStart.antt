@@ -4,8 +4,8 @@
 -- that no event refuses; that "The dock's listing of entry 0 follows" is `Demand2`, by `History.kept`, and `Demand2.Met` has such a mission
 -- in numbers. A Forced Conversion "to 11 bits" is `Line.Controlling.Forced`. Assumes nothing.
 use mathlib.Core.Path.{_≡_, refl, _∙_}
-use mathlib.Core.Bool.{true, false, _||_}
-use mathlib.Core.List.{List, [], _∷_}
+use mathlib.Core.Bool.{true, false}
+use mathlib.Core.List.{List, []}
 use mathlib.Core.Logic.{_⊎_, inl, inr, ⊎-elim}
 use Prim.Native.Nat.{ℕ, _+_, _*_, _/_, _%_, _≤_, _<_}
 use native.Mathlib.Omega.{arith}
@@ -15,7 +15,6 @@ use Rattle.bits.specs.Bytes.{Bytes}
 use Rattle.bits.specs.Choose.{choice}
 use Rattle.image.specs.Fields.{wordAt, flagAt}
 use Rattle.image.specs.Fields.Laws.{word-lt}
-use Rattle.image.specs.Leaves.{Leaves}
 use Rattle.conversion.specs.Conversion.Whole.{Whole}
 use Rattle.mission.specs.Mission.Whole.{whole-ticked}
 use Rattle.promises.specs.Demand2.AtStart.{settingsOf}
@@ -25,7 +24,7 @@ use Rattle.promises.specs.Demand2.Going.{Going}
 use Rattle.promises.specs.History
 use Rattle.promises.specs.History.{Settings}
 use Rattle.promises.specs.History.Laws.{most-pos}
-use Rattle.promises.specs.Line.Converting.{highAlarm, lowAlarm, waits, entryNumber, logByte, Converted, ticks-either, mission-waits, mission-converts}
+use Rattle.promises.specs.Line.Converting.{alarms, waits, entryNumber, logByte, Converted, Rests, ticks-either, mission-waits, mission-converts}
 use Rattle.promises.specs.Runs.{State, Event, after, run, Reached, Always}
 use Rattle.promises.specs.Runs.Laws.{Sound, reached-after, reached-run}
 
@@ -35,10 +34,10 @@ pub record EightBits (reading : ℕ) (before after : List ℕ) : Type 0 where
   -- in either format
   pub latest : (getD after 0x020C 0 ≡ 0x00) × (getD after 0x020D 0 ≡ reading / 8)
   -- the alarming one: TLFS is bit 2 of 0213h
-  pub entry : (highAlarm before reading || lowAlarm before reading) ≡ true → getD after 640 0 ≡ reading / 8
-  pub entry-low : (highAlarm before reading || lowAlarm before reading) ≡ true → flagAt before 0x0213 2 ≡ true → getD after 641 0 ≡ 0x00
+  pub entry : alarms before reading ≡ true → getD after 640 0 ≡ reading / 8
+  pub entry-low : alarms before reading ≡ true → flagAt before 0x0213 2 ≡ true → getD after 641 0 ≡ 0x00
   -- every other leaves the log as it is
-  pub waits-on : (highAlarm before reading || lowAlarm before reading) ≡ false → (j : ℕ) → j < 8192
+  pub waits-on : alarms before reading ≡ false → (j : ℕ) → j < 8192
       → getD after (640 + j) 0 ≡ getD before (640 + j) 0
   -- flags, counters and the rest, as of every conversion
   pub converted : Converted 0 reading before after
@@ -80,12 +79,12 @@ module _ {reading : ℕ} {before after : List ℕ} where
         converted = made;
       }
 
--- ---- a tick with a valid reading: no conversion is made, and only the clock and the delay move, or one is
+-- ---- a tick with a valid reading: no conversion is made, or one is
 
 module _ {s : State} (sound : Sound s) (bytes : Bytes (s .image)) (reading : ℕ) (small : reading ≤ 2047) where
   -- SUTA, bit 5 of 0213h, and WFTA, bit 4 of 0215h, are 1 as it begins
   pub waiting-tick : waits (s .image) ≡ true →
-      Leaves ((0x0200, 6) ∷ (0x0216, 3) ∷ []) [] (s .image) (after s (Event.tick reading) .image)
+      Rests (s .image) (after s (Event.tick reading) .image)
       ⊎ EightBits reading (s .image) (after s (Event.tick reading) .image)
   waiting-tick waiting =
       let whole : Whole (s .image) = record { size = sound .size; bytes = bytes } in
@@ -94,7 +93,7 @@ module _ {s : State} (sound : Sound s) (bytes : Bytes (s .image)) (reading : ℕ
 
   -- one of the two is 0
   pub logging-tick : waits (s .image) ≡ false → flagAt (s .image) 0x0213 2 ≡ true →
-      Leaves ((0x0200, 6) ∷ (0x0216, 3) ∷ []) [] (s .image) (after s (Event.tick reading) .image)
+      Rests (s .image) (after s (Event.tick reading) .image)
       ⊎ ElevenBits (entryNumber (s .image)) reading (s .image) (after s (Event.tick reading) .image)
   logging-tick going wide = ⊎-elim inl (λ made. inr (eleven-by _ going wide made)) (ticks-either sound bytes reading small)
 

@@ -2,7 +2,7 @@
 -- by its addresses and bits: first what becomes of the registers, then the commands. Where a command's conditions do not hold, with
 -- another last byte, or with a wrong password, nothing is done. On the line these are all alike: the master's own bits. Assumes nothing.
 use mathlib.Core.Path.{_≡_, refl, sym, ap, _∙_}
-use mathlib.Core.Bool.{Bool, true, false, _||_}
+use mathlib.Core.Bool.{Bool, true, false}
 use mathlib.Core.List.{List, [], _∷_, _++_}
 use mathlib.Core.Logic.{_≢_}
 use Prim.Native.Nat.{ℕ, _+_, _*_, _%_, _^_, _≤_, _<_, min}
@@ -38,7 +38,7 @@ use Rattle.promises.specs.Demand2.Events.{MayStart}
 use Rattle.promises.specs.Runs.{State, run, Ran, Reached}
 use Rattle.promises.specs.Runs.Laws.{Sound, reached-sound}
 use Rattle.promises.specs.Line.ControlRun.{controlSlots, controlByte, controlBus, control-head, control-undone, control-refused as refused}
-use Rattle.promises.specs.Line.Converting.{highAlarm, lowAlarm}
+use Rattle.promises.specs.Line.Converting.{alarms}
 use Rattle.promises.specs.Line.Deeds as deeds
 use Rattle.promises.specs.Line.Passwords.{PassesFull, full-may}
 use Rattle.promises.specs.Line.Slots.{numberOf, session, greeting, session-quiet, answersOf, Kept, kept-by}
@@ -75,7 +75,7 @@ pub record Forced (reading : ℕ) (before after : List ℕ) : Type 0 where
   pub latest : wordAt after 0x020C 2 ≡ 32 * reading
   pub device : wordAt after 0x0223 3 ≡ min (wordAt before 0x0223 3 + 1) 0xFFFFFF
   pub eosc : flagAt after 0x0212 0 ≡ true
-  pub wfta : flagAt after 0x0215 4 ≡ if highAlarm before reading || lowAlarm before reading then false else flagAt before 0x0215 4
+  pub wfta : flagAt after 0x0215 4 ≡ if alarms before reading then false else flagAt before 0x0215 4
   pub rest : Leaves ((0x020C, 2) ∷ (0x0223, 3) ∷ []) ((0x0212, 0) ∷ (0x0215, 4) ∷ []) before after
 
 -- beside the image: number, code, scratchpad and address registers stay, and the counters are these

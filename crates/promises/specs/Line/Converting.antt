@@ -56,6 +56,10 @@ highAlarm image reading = flagAt image 0x0210 1 && leb (getD image 0x0209 0) (re
 abbrev pub lowAlarm : List ℕ → ℕ → Bool
 lowAlarm image reading = flagAt image 0x0210 0 && leb (reading / 8) (getD image 0x0208 0)
 
+-- a conversion that "alarms"
+abbrev pub alarms : List ℕ → ℕ → Bool
+alarms image reading = highAlarm image reading || lowAlarm image reading
+
 -- "nothing is logged until a conversion alarms": SUTA, bit 5 of 0213h, and WFTA, bit 4 of 0215h
 abbrev pub waits : List ℕ → Bool
 waits image = flagAt image 0x0213 5 && flagAt image 0x0215 4
@@ -100,17 +104,21 @@ pub record Converted (k reading : ℕ) (before after : List ℕ) : Type 0 where
   pub samples : wordAt after 0x0220 3 ≡ if waits before then wordAt before 0x0220 3 else wordAt before 0x0220 3 + 1
   -- "until a conversion alarms. That one clears WFTA"
   pub wfta : flagAt after 0x0215 4
-      ≡ if waits before && (highAlarm before reading || lowAlarm before reading) then false
+      ≡ if waits before && alarms before reading then false
       else flagAt before 0x0215 4
   -- the log, bytes 640 to 8,831: TLFS is bit 2 of 0213h. "With SUTA nothing is logged until a conversion alarms"
   pub log : (j : ℕ) → j < 8192 →
       getD after (640 + j) 0
-      ≡ if not (waits before) || (highAlarm before reading || lowAlarm before reading) then
+      ≡ if not (waits before) || alarms before reading then
       logByte (flagAt before 0x0213 2) k (taken before reading) j (getD before (640 + j) 0)
       else getD before (640 + j) 0
   -- beside these only the clock and the stamp
   pub rest : Leaves ((0x0200, 6) ∷ (0x020C, 2) ∷ (0x0219, 6) ∷ (0x0220, 3) ∷ (0x0223, 3) ∷ (640, 8192) ∷ [])
       ((0x0214, 0) ∷ (0x0214, 1) ∷ (0x0215, 4) ∷ []) before after
+
+-- and by a tick that makes none: only the clock, 0200h to 0205h, and the delay, 0216h to 0218h, move
+abbrev pub Rests : List ℕ → List ℕ → Type 0
+Rests before after = Leaves ((0x0200, 6) ∷ (0x0216, 3) ∷ []) [] before after
 
 -- from what the mission's laws say of it
 converted-by : {before after : List ℕ} {clock : Clock} (reading : ℕ) → reading ≤ 2047 →
@@ -215,10 +223,10 @@ module _ {s : State} (reached : Reached s) (reading : ℕ) (small : reading ≤ 
       rw (tick-leaves (reached-sound reached) reading small, ticked-idle (s .image) (s .tag .counters) reading idle)
       (leaves-clocked (s .image))
 
--- of any record and image that no event refuses, reached or not: no conversion is made, and only the clock and the delay move, or one is. In
--- a mission `mission-converts` and `mission-rests` say when
+-- of any record and image that no event refuses, reached or not: no conversion is made, or one is. In a mission `mission-converts` and
+-- `mission-rests` say when
 module _ {s : State} (sound : Sound s) (bytes : Bytes (s .image)) (reading : ℕ) (small : reading ≤ 2047) where
-  pub ticks-either : Leaves ((0x0200, 6) ∷ (0x0216, 3) ∷ []) [] (s .image) (after s (Event.tick reading) .image)
+  pub ticks-either : Rests (s .image) (after s (Event.tick reading) .image)
       ⊎ Converted (entryNumber (s .image)) reading (s .image) (after s (Event.tick reading) .image)
   unfolding conversion.nextEntry conversion.waiting
   ticks-either = by-tests (Mission.due image counters) (conversion.ended image) refl refl
@@ -229,12 +237,11 @@ module _ {s : State} (sound : Sound s) (bytes : Bytes (s .image)) (reading : ℕ
       counters : Counters
       counters = s .tag .counters
 
-      none : (Mission.due image counters && not (conversion.ended image)) ≡ false →
-          Leaves ((0x0200, 6) ∷ (0x0216, 3) ∷ []) [] image (after s (Event.tick reading) .image)
+      none : (Mission.due image counters && not (conversion.ended image)) ≡ false → Rests image (after s (Event.tick reading) .image)
       none quiet = rw (tick-leaves sound reading small) (leaves-quiet image counters reading quiet)
 
       by-tests : (d f : Bool) → Mission.due image counters ≡ d → conversion.ended image ≡ f →
-          Leaves ((0x0200, 6) ∷ (0x0216, 3) ∷ []) [] image (after s (Event.tick reading) .image)
+          Rests image (after s (Event.tick reading) .image)
           ⊎ Converted (entryNumber image) reading image (after s (Event.tick reading) .image)
       by-tests true false due going = inr (converted-tick sound bytes reading small due going)
       by-tests true true due ended = inl (none (rw (due, ended)))
@@ -281,11 +288,11 @@ module _ {s : State} (e : Event) (events : List Event) (reached : Reached s) (st
         let going = ended-of listed running (history-le (settingsOf (begun .image)) readings) ∙ lt-leb most _ more in
         rw (← nextEntry-of listed running) (converted-tick (holding .0 .sound) (holding .0 .whole .bytes) reading small due going)
 
-    -- at any other, and when conversions have ended, only the clock and the delay move
+    -- none at any other, and when conversions have ended
     pub mission-rests :
         (History.isTime (settingsOf (begun .image)) (length readings + 1) ≡ false)
         ⊎ (History.most (settingsOf (begun .image)) ≤ length (History.history (settingsOf (begun .image)) readings)) →
-        Leaves ((0x0200, 6) ∷ (0x0216, 3) ∷ []) [] (there .image) (after there (Event.tick reading) .image)
+        Rests (there .image) (after there (Event.tick reading) .image)
     mission-rests none =
         let listed = holding .1 .listed in
         let running = holding .1 .running in
