@@ -9,6 +9,12 @@
 #define FEW_REPLIES 17
 #define TICK_WORD 4096
 
+/* The event code of a word that is no tick: for a word that is no event, one that is refused. */
+static uint8_t code_of(uint16_t word)
+{
+    return word == TICK || word > SHORT_RESET ? SHORT_RESET + 1 : word;
+}
+
 /*
  * The words one by one, until one is refused; returns how many are done. It stays a function of its own: within in_lists the
  * compiler has fewer registers for it, and a slot without checks counts 4 more.
@@ -25,7 +31,7 @@ __attribute__((noinline)) static size_t play_words(uint8_t *lent, size_t size, c
 
         *refusal = word >= TICK_WORD
                        ? play_event(&tag, lent, size, TICK, word - TICK_WORD, &line)
-                       : play_event(&tag, lent, size, word < TICK ? word : TICK + 1, 0, &line);
+                       : play_event(&tag, lent, size, code_of(word), 0, &line);
         if (*refusal != ACCEPTED)
             break;
         replies[i] = line;

@@ -1,4 +1,4 @@
-"""Lists of events for the call that takes many: the cases of the rulings on request #101, and random lists.
+"""Lists of events for the call that takes many: the cases of the rulings on requests #101 and #103, and random lists.
 
 Random ones come from a seed and a number, as do the sessions (sessions.py) whose events they hold: those of session 17 of
 seed 1 are the same whatever else is run.
@@ -59,10 +59,13 @@ def cases():
                ([1] * 7, 0, 7, "00 00 00 00 00 01 00"))
     yield case("a reading above 2047", ([2, 5096, 6144, 0], 1, 2, "00 01 77 77"), FORCED_LIST,
                changed={**FORCED_IMAGE, 0x020D: 0x7D})  # the last reading is 1000
-    for word in (3, 4, 4095, 6144, 65535):
+    for word in (3, 5, 4095, 6144, 65535):
         yield case(f"word {word}", ([word], 1, 0, "77"), ([2, word], 1, 1, "00 77"))
-    for word in (4096, 6143):
+    for word in (4, 4096, 6143):
         yield case(f"word {word}", ([word], 0, 1, "01"))
+    # The speed goes on from list to list, also from one that ends with a refused word, until the long reset.
+    yield case("short resets", ([4, 2, *slots(0x3C), 4], 0, 11, "01 00 00 00 01 01 01 01 00 00 00"), ([5], 1, 0, "77"),
+               ([4, *slots(0x33), 1], 0, 10, "00 01 01 00 00 01 01 00 00 01"), ([2, 4], 0, 2, "00 01"))
     yield case("an empty list", ([], 0, 0, ""), ([], 0, 0, "77 77"))
     yield case("more reply bytes than words", ([2], 0, 1, "00 77 77"))
     yield case("fewer reply bytes than words", ([2, 5096], 17, 0, "77"), FORCED_LIST, changed=FORCED_IMAGE)
@@ -79,7 +82,7 @@ def words_of(triples):
     """The events of a session as words, up to the first that is refused."""
     for code, high, low in zip(triples[::3], triples[1::3], triples[2::3]):
         reading = high << 8 | low
-        if code > 3 or code == 3 and reading > 2047:
+        if code > 4 or code == 3 and reading > 2047:
             return
         yield 4096 + reading if code == 3 else code
 
@@ -120,7 +123,7 @@ def careless(rng, words):
 
 
 def no_event(rng):
-    return rng.choice((3, 4095, 6144, 65535, rng.randint(3, 4095), rng.randint(6144, 65535)))
+    return rng.choice((3, 5, 4095, 6144, 65535, rng.randint(5, 4095), rng.randint(6144, 65535)))
 
 
 def other_tag(rng, rom):

@@ -40,6 +40,10 @@ def load(fault, wanted="programs"):
     return importlib.import_module(f"{package}.{wanted}")
 
 
+# A short reset at standard speed, and all of it up to the tag that listens again.
+UNHEARD = "        if not self.overdrive:\n            return 1\n"
+HEARD = UNHEARD + "        self.reset()\n"
+
 FAULTS = (
     # Document 01, "Slips that look right"
     Fault("password in the CRC", "tag", "sent = bytearray((READ_MEMORY, ta1, ta2))  #",
@@ -66,6 +70,74 @@ FAULTS = (
     Fault("a wrong Match sets the mark", "tag",
           "self.resume_mark = yield from self.match()\n            return self.resume_mark",
           "right = yield from self.match()\n            self.resume_mark = True\n            return right"),
+
+    # Overdrive (request #103): the two commands
+    Fault("3Ch does not set the speed", "tag", "elif command == OVERDRIVE_SKIP:\n            self.overdrive = True",
+          "elif command == OVERDRIVE_SKIP:\n            pass"),
+    Fault("3Ch keeps the mark", "tag", "self.resume_mark = False\n        if command == CONDITIONAL_SEARCH",
+          "self.resume_mark &= command == OVERDRIVE_SKIP\n        if command == CONDITIONAL_SEARCH"),
+    Fault("nothing after 3Ch", "tag", "elif command == OVERDRIVE_SKIP:\n            self.overdrive = True",
+          "elif command == OVERDRIVE_SKIP:\n            self.overdrive = True\n            return False"),
+    Fault("69h does not set the speed", "tag", "self.resume_mark = self.overdrive = True", "self.resume_mark = True"),
+    Fault("69h does not set the mark", "tag", "self.resume_mark = self.overdrive = True", "self.overdrive = True"),
+    Fault("69h keeps the mark until it is whole", "tag",
+          "self.resume_mark = False\n        if command == CONDITIONAL_SEARCH",
+          "self.resume_mark &= command == OVERDRIVE_MATCH\n        if command == CONDITIONAL_SEARCH"),
+    Fault("69h sets the speed at its command byte", "tag", "return (yield from self.overdrive_match())",
+          "self.overdrive = True\n            return (yield from self.overdrive_match())"),
+    Fault("69h sets the speed on 63 bits", "tag", "whole = yield from self.match()\n", """\
+whole = True
+        for place, bit in enumerate(self.rom_bits()):
+            yield
+            whole = (yield 1) == bit and whole
+            self.overdrive |= whole and place == 62
+"""),
+    Fault("a failed 69h sets the speed", "tag", "if whole:\n            self.resume_mark = self.overdrive = True",
+          "self.overdrive, self.resume_mark = True, whole"),
+    Fault("a failed 69h sets the mark", "tag", "if whole:\n            self.resume_mark = self.overdrive = True",
+          "self.resume_mark = True\n        self.overdrive |= whole"),
+    Fault("a failed 69h ends overdrive", "tag", "if whole:\n            self.resume_mark = self.overdrive = True",
+          "self.resume_mark = self.overdrive = whole"),
+    Fault("3Ch sets the speed as a memory command", "tag", "command = yield from hear()\n        if command == WRITE",
+          "command = yield from hear()\n        self.overdrive |= command == OVERDRIVE_SKIP\n        if command == WRITE"),
+    Fault("69h sets the speed as a memory command", "tag", "command = yield from hear()\n        if command == WRITE",
+          "command = yield from hear()\n        self.overdrive |= command == OVERDRIVE_MATCH\n        if command == WRITE"),
+    Fault("Match 55h sets the speed", "tag", "self.resume_mark = yield from self.match()\n",
+          "self.resume_mark = yield from self.match()\n            self.overdrive |= self.resume_mark\n"),
+    Fault("another ROM command ends overdrive", "tag",
+          "self.resume_mark = False\n        if command == CONDITIONAL_SEARCH",
+          "self.resume_mark = False\n        self.overdrive &= command == OVERDRIVE_MATCH\n"
+          "        if command == CONDITIONAL_SEARCH"),
+    Fault("Resume ends overdrive", "tag", "if command == RESUME:\n",
+          "if command == RESUME:\n            self.overdrive = False\n"),
+    Fault("a tick ends overdrive", "tag", "self.last_reading = reading\n",
+          "self.last_reading = reading\n        self.overdrive = False\n"),
+
+    # Overdrive: resets
+    Fault("a new tag at overdrive", "tag", "self.overdrive = False  # the speed", "self.overdrive = True  # the speed"),
+    Fault("a long reset keeps the speed", "tag", "self.overdrive = False\n        self.reset()", "self.reset()"),
+    Fault("a short reset ends overdrive", "tag", HEARD, HEARD + "        self.overdrive = False\n"),
+    Fault("a short reset clears the mark", "tag", HEARD, HEARD + "        self.resume_mark = False\n"),
+    Fault("a short reset clears PF", "tag", HEARD, HEARD + "        self.partial = 0\n"),
+    Fault("a short reset leaves a silent tag silent", "tag", HEARD,
+          UNHEARD + "        if self.line is not None:\n            self.reset()\n"),
+    Fault("a short reset without presence", "tag", HEARD + "        return 0\n", HEARD + "        return 1\n"),
+    Fault("a short reset at standard speed breaks off", "tag", UNHEARD,
+          "        if not self.overdrive:\n            self.reset()\n            return 1\n"),
+    Fault("a short reset at standard speed gives presence", "tag", UNHEARD,
+          "        if not self.overdrive:\n            return 0\n"),
+    Fault("a short reset at standard speed wakes a silent tag", "tag", UNHEARD,
+          "        if not self.overdrive and self.line is None:\n            self.reset()\n" + UNHEARD),
+    Fault("a short reset at standard speed silences the tag", "tag", UNHEARD,
+          "        if not self.overdrive:\n            self.line = None\n            return 1\n"),
+    Fault("a short reset at standard speed clears the mark", "tag", UNHEARD,
+          "        if not self.overdrive:\n            self.resume_mark = False\n            return 1\n"),
+    Fault("code 4 refused with 1", "tag", "return 0, self.short_reset()", "return 1, 1"),
+    Fault("code 4 with a reading above 2047 refused with 2", "tag", "return 0, self.short_reset()",
+          "return (2, 1) if reading > LARGEST_READING else (0, self.short_reset())"),
+    Fault("code 5 is a short reset", "tag", "if code == 4:", "if code in (4, 5):"),
+    Fault("a reading above 2047 before a code above 4", "tag", "if code > 4:\n            return 1, 1",
+          "if code > 4:\n            return 2 if reading > LARGEST_READING else 1, 1"),
 
     # Scratchpad and Copy
     Fault("PF not set by a broken byte", "tag", "byte = yield 1\n        self.partial = 1", "byte = yield 1"),
@@ -213,10 +285,11 @@ LIST_FAULTS = (
           "return FEW_REPLIES, 0 * events(tag, words, bytearray(len(words)))[1]"),
 
     # Which words are events
-    Fault("word 3 is a tick", "lists", "    if word <= 2:\n", "    if word == 3:\n        return 3, 0\n    if word <= 2:\n"),
+    Fault("word 3 is a tick", "lists", "    return None\n", "    return (3, 0) if word == 3 else None\n"),
     Fault("word 4095 is a tick", "lists", "    return None\n", "    return (3, 0) if word == 4095 else None\n"),
     Fault("word 6144 is a tick", "lists", "    return None\n", "    return (3, 2047) if word == 6144 else None\n"),
-    Fault("a word's upper three bits dropped", "lists", "    if word <= 2:\n", "    word %= 8192\n    if word <= 2:\n"),
+    Fault("a word's upper three bits dropped", "lists", "    if word in SLOTS_AND_RESETS:\n",
+          "    word %= 8192\n    if word in SLOTS_AND_RESETS:\n"),
     Fault("a reading one more", "lists", "return 3, word - FIRST_TICK", "return 3, (word - FIRST_TICK + 1) % 2048"),
     Fault("2 for a reading above 2047", "lists", "return REFUSED_WORD, done",
           "return 2 if word > LAST_TICK else REFUSED_WORD, done"),
@@ -238,13 +311,26 @@ LIST_FAULTS = (
     Fault("answer 1 silences the tag", "lists", REFUSED, "            tag.line = None\n" + REFUSED),
 
     # A list that is all done
-    Fault("ended by the first tick", "lists", ALL_DONE, "        if word > 2:\n            return 0, done + 1\n" + ALL_DONE),
+    Fault("ended by the first tick", "lists", ALL_DONE,
+          "        if word >= FIRST_TICK:\n            return 0, done + 1\n" + ALL_DONE),
     Fault("a tick's reply byte left", "lists", "_, replies[done] = tag.event(*event)",
-          "bit = tag.event(*event)[1]\n        replies[done] = bit if word <= 2 else replies[done]"),
+          "bit = tag.event(*event)[1]\n        replies[done] = bit if word < FIRST_TICK else replies[done]"),
     Fault("a reset's reply 1", "lists", "_, replies[done] = tag.event(*event)",
           "replies[done] = tag.event(*event)[1] | (word == 2)"),
     Fault("the reply bytes past the words cleared", "lists", ALL_DONE,
           "    replies[len(words):] = bytes(len(replies) - len(words))\n" + ALL_DONE),
     Fault("the tag silent after a list", "lists", ALL_DONE, "    tag.line = None\n" + ALL_DONE),
     Fault("a reset before a list", "lists", EACH_WORD, "    tag.reset()\n" + EACH_WORD),
+
+    # Short resets (request #103)
+    Fault("word 4 refused", "lists", "(0, 1, 2, 4)", "(0, 1, 2)"),
+    Fault("word 4 is a long reset", "lists", "        return word, 0\n", "        return 2 if word == 4 else word, 0\n"),
+    Fault("word 5 is a short reset", "lists", "    return None\n", "    return (4, 0) if word == 5 else None\n"),
+    Fault("a short reset passed over", "lists", "_, replies[done] = tag.event(*event)",
+          "replies[done] = 1 if word == 4 else tag.event(*event)[1]"),
+    Fault("a short reset's reply 1", "lists", "_, replies[done] = tag.event(*event)",
+          "replies[done] = tag.event(*event)[1] | (word == 4)"),
+    Fault("ended by a short reset", "lists", ALL_DONE, "        if word == 4:\n            return 0, done + 1\n" + ALL_DONE),
+    Fault("at standard speed after a list", "lists", ALL_DONE, "    tag.overdrive = False\n" + ALL_DONE),
+    Fault("answer 1 ends overdrive", "lists", REFUSED, "            tag.overdrive = False\n" + REFUSED),
 )

@@ -1,4 +1,7 @@
-"""The points of document 01 and of request #102, computed by the model. Last line: how many passed and failed."""
+"""The points of document 01 and of requests #102 and #103, computed by the model.
+
+The last line is 'N passed, M failed'.
+"""
 
 import random
 import sys
@@ -10,8 +13,8 @@ from model.crc import crc8, crc16
 from model.master import Master
 from model.tag import (
     ALARMS, BOR, CLOCK, CODE_L, CODE_T, CONTROL, DELAY, DEVICE_SAMPLES, EHSS, ETHA, ETL, ETLA, IMAGE_LENGTH,
-    LATEST, LOG_IN_IMAGE, MEMCLR, MIP, MISSION_SAMPLES, OSCILLATOR, RATE, RO, STAMP, STATUS, SUTA, THF, TLFS, WFTA,
-    clock_after, new)
+    LATEST, LOG_IN_IMAGE, MEMCLR, MIP, MISSION_SAMPLES, OSCILLATOR, OVERDRIVE_MATCH, OVERDRIVE_SKIP, RATE, READ_ROM,
+    RESUME, RO, SKIP_ROM, STAMP, STATUS, SUTA, THF, TLFS, WFTA, WRITE_SCRATCHPAD, clock_after, new)
 
 ROM = bytes.fromhex("412BC5FB000000A1")
 HEAD = ROM + bytes((CODE_L,))
@@ -367,15 +370,17 @@ def program_points(points):
             ("wrong CRC", ROM[:7] + b"\xA0\x40", b"R04\n"), ("wrong family", bytes(8) + b"\x40", b"R04\n"),
             ("short group", HEAD + b"\x02\0", b""), ("reset, slots, tick", HEAD + bytes.fromhex(
                 "020000010000000000030000"), b"0\n1\n0\n1\n"),
-            ("code 4", HEAD + bytes.fromhex("02000004FFFF010000"), b"0\nR01\n"),
+            ("code 4", HEAD + bytes.fromhex("02000004FFFF010000"), b"0\n1\n1\n"),
+            ("code 5", HEAD + bytes.fromhex("02000005FFFF010000"), b"0\nR01\n"),
             ("reading 2048", HEAD + bytes.fromhex("0307FF030800010000"), b"1\nR02\n"),
             ("stray readings", HEAD + bytes.fromhex("02FFFF01FFFF00FFFF"), b"0\n1\n0\n")):
         points.equal(f"play: {name}", programs.play(stdin), expected)
     number, tag = new(ROM, CODE_L, bytearray(8831))
-    points.equal("image length", (number, tag.event(9, 0)), (3, (3, 1)))
+    points.equal("image length", (number, tag.event(9, 0), tag.event(4, 0)), (3, (3, 1), (3, 1)))
     image = bytearray(b"\x55" * IMAGE_LENGTH)
     number, tag = new(bytes(8), CODE_L, image)
-    points.equal("refused tag: 6", (number, tag.event(9, 9999), set(image)), (4, (6, 1), {0x55}))
+    points.equal("refused tag: 6", (number, tag.event(9, 9999), tag.event(4, 0), set(image)),
+                 (4, (6, 1), (6, 1), {0x55}))
     number, tag = new(ROM, CODE_T, image)
     points.equal("a new tag clears the image", (number, sum(image), image[ALARMS]), (0, BOR, BOR))
 
@@ -427,12 +432,67 @@ def line_points(points):
     points.equal("play gives the same", programs.play(HEAD + master.triples), bytes(master.answers))
 
 
+# ---- Overdrive ----
+
+def selected(master):
+    """Whether a memory command is taken."""
+    return master.read_scratchpad()[2]
+
+
+def speed_points(points):
+    master = new_master()
+    bits = [master.short_reset(), master.long_reset()]
+    master.write((OVERDRIVE_SKIP,))
+    bits.append(master.short_reset())
+    master.write((READ_ROM,))
+    points.equal("Read ROM at overdrive", master.read(8), ROM)
+    bits += [master.long_reset(), master.short_reset()]
+    points.equal("resets of both kinds", bits, [1, 0, 0, 0, 1])
+
+
+def overdrive_points(points):
+    """The mark after 3Ch and 69h; 69h with its last bit wrong, begun at either speed."""
+    for command, number, marked in ((OVERDRIVE_SKIP, b"", False), (OVERDRIVE_MATCH, ROM, True)):
+        master = new_master()
+        master.match(ROM)
+        master.long_reset()
+        master.write((command, *number))
+        bit = master.short_reset()
+        master.write((RESUME,))
+        points.equal(f"Resume after {command:02X}h", (bit, selected(master)), (0, marked))
+    for fast in (False, True):
+        master = new_master()
+        master.rom_command(OVERDRIVE_SKIP if fast else SKIP_ROM)
+        (master.short_reset if fast else master.long_reset)()
+        master.write((OVERDRIVE_MATCH, *ROM[:7], ROM[7] ^ 0x80))
+        points.equal(f"a wrong 69h, overdrive {fast}", (selected(master), master.short_reset()), (False, int(not fast)))
+
+
+def half_heard_points(points):
+    """At standard speed a byte goes on over a short reset; at overdrive it is broken off."""
+    master = new_master()
+    master.long_reset()
+    master.write_bits(SKIP_ROM, 4)
+    bit = master.short_reset()
+    master.write_bits(SKIP_ROM >> 4, 4)
+    points.equal("CCh in two halves", (bit, selected(master)), (1, True))
+    for fast, status in ((False, 0x1D), (True, 0x3C)):
+        master = new_master()
+        master.rom_command(OVERDRIVE_SKIP if fast else SKIP_ROM)
+        master.write((WRITE_SCRATCHPAD, 0x3C, 0x01, 0xAB))
+        master.write_bits(0x05, 3)
+        master.short_reset()
+        master.write_bits(0x10, 0 if fast else 5)
+        master.skip()
+        points.equal(f"a data byte in two parts, overdrive {fast}", master.read_scratchpad()[0][2], status)
+
+
 def main():
     points = Points()
     for check in (crc_points, clock_points, temperature_points, alarm_points, rate_points, scratchpad_points,
                   full_point, suta_points, alarm_start_points, rollover_points, history_points, listing_points,
                   forced_points, other_image_points, other_waiting_points, sheet_mission, program_points,
-                  password_points, line_points):
+                  password_points, line_points, speed_points, overdrive_points, half_heard_points):
         check(points)
     print(f"{points.passed} passed, {points.failed} failed")
     return 1 if points.failed else 0

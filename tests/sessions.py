@@ -5,6 +5,7 @@ turns. A session is written by a master that plays it to the model's tag, and lo
 passwords and addresses; what it expects is what the model answered.
 """
 
+import itertools
 import random
 
 from model.crc import crc8
@@ -12,11 +13,11 @@ from model.master import Master
 from model.programs import play
 from model.tag import (
     ALARMS, BOR, CLEAR, CODE_L, CODE_T, CONDITIONAL_SEARCH, COPY_SCRATCHPAD, EHSS, EOSC, ETL, ETLA, FAMILY,
-    FORCED_CONVERSION, FULL_PASSWORD, IMAGE_LENGTH, MATCH_ROM, MIP, PASSWORD_CONTROL, READ_MEMORY, READ_PASSWORD,
-    READ_ROM, READ_SCRATCHPAD, RESUME, RO, SEARCH_ROM, SKIP_ROM, START, STATUS, STOP, SUTA, THF, TLF, TLFS,
-    WRITE_SCRATCHPAD, bcd, new)
+    FORCED_CONVERSION, FULL_PASSWORD, IMAGE_LENGTH, MATCH_ROM, MIP, OVERDRIVE_MATCH, OVERDRIVE_SKIP, PASSWORD_CONTROL,
+    READ_MEMORY, READ_PASSWORD, READ_ROM, READ_SCRATCHPAD, RESUME, RO, SEARCH_ROM, SKIP_ROM, START, STATUS, STOP, SUTA,
+    THF, TLF, TLFS, WRITE_SCRATCHPAD, bcd, new)
 
-ROM_COMMANDS = (READ_ROM, MATCH_ROM, SEARCH_ROM, CONDITIONAL_SEARCH, SKIP_ROM, RESUME)
+ROM_COMMANDS = (READ_ROM, MATCH_ROM, SEARCH_ROM, CONDITIONAL_SEARCH, SKIP_ROM, RESUME, OVERDRIVE_SKIP, OVERDRIVE_MATCH)
 MEMORY_COMMANDS = (WRITE_SCRATCHPAD, READ_SCRATCHPAD, COPY_SCRATCHPAD, READ_MEMORY, CLEAR, START, STOP,
                    FORCED_CONVERSION)
 EDGE_READINGS = (0, 7, 8, 671, 672, 679, 680, 2040, 2047)
@@ -42,6 +43,7 @@ class Session:
         self.code = rng.choice((CODE_L, CODE_T))
         self.tag = new(self.rom, self.code, bytearray(IMAGE_LENGTH))[1]
         self.master = Master(self.tag)
+        self.master.short = lambda: self.tag.overdrive and self.chance(0.5)
         if rng.random() < 0.3:
             self.master.stray_reading = lambda: rng.getrandbits(16)
 
@@ -67,11 +69,14 @@ class Session:
         for _ in range(count):
             self.master.tick(self.reading())
 
-    def tick_inside(self, probability):
-        """From now on ticks come between slots, with readings of their own."""
+    def events_inside(self, probability):
+        """From now on ticks come between slots, with readings of their own, and at standard speed short resets, which
+        change nothing."""
         def before_slot():
-            if self.rng.random() < probability:
+            if self.chance(probability):
                 self.master.tick(self.rng.randrange(2048))
+            if self.chance(probability) and not self.tag.overdrive:
+                self.master.short_reset()
         self.master.before_slot = before_slot
 
     # ---- Passwords ----
@@ -90,8 +95,7 @@ class Session:
             return self.rng.randbytes(8)
         if kind == 1:
             return self.read_password()
-        flip = 1 << self.rng.choice((0, 63, self.rng.randrange(64)))
-        return (int.from_bytes(right, "little") ^ flip).to_bytes(8, "little")
+        return flipped(right, self.rng.choice((0, 63, self.rng.randrange(64))))
 
     def password(self, wrong=0.15):
         return self.wrong_password() if self.chance(wrong) else self.full_password()
@@ -100,7 +104,7 @@ class Session:
 
     def select(self):
         """Some way that works to go on to a memory command."""
-        kind = self.rng.randrange(10)
+        kind = self.rng.randrange(13)
         if kind == 0:
             self.master.read_rom()
         elif kind == 1:
@@ -111,12 +115,15 @@ class Session:
             self.master.search(self.rom, conditional=True)
         elif kind <= 5 and self.tag.resume_mark:
             self.master.resume()
+        elif kind == 6:
+            self.master.overdrive_match(self.rom)
+        elif kind <= 8:
+            self.master.overdrive_skip()
         else:
             self.master.skip()
 
     def flipped_rom(self):
-        flip = 1 << self.rng.choice((0, 63, self.rng.randrange(64)))
-        return (int.from_bytes(self.rom, "little") ^ flip).to_bytes(8, "little")
+        return flipped(self.rom, self.rng.choice((0, 63, self.rng.randrange(64))))
 
     # ---- Settings ----
 
@@ -193,6 +200,16 @@ class Session:
         self.look_at(start, min(40, 0x3000 - start))
 
 
+def bits_of(data):
+    """In the order of the line."""
+    return [byte >> place & 1 for byte in data for place in range(8)]
+
+
+def flipped(data, place):
+    """Eight bytes with one bit wrong, counted as they travel."""
+    return (int.from_bytes(data, "little") ^ 1 << place).to_bytes(8, "little")
+
+
 # ---- Kinds of session: choosing the tag ----
 
 def rom_commands(session):
@@ -233,6 +250,7 @@ def some_rom_command(session):
     rng.choice((
         lambda: master.match(rom), lambda: master.search(rom), lambda: master.search(rom, conditional=True),
         lambda: master.search(session.rom, conditional=True), master.read_rom, master.skip, master.resume,
+        lambda: master.overdrive_match(rom), master.overdrive_skip,
         lambda: master.rom_command(rng.randrange(256)), lambda: broken_rom_command(session, rom)))()
 
 
@@ -240,15 +258,81 @@ def broken_rom_command(session, rom):
     """Its first bits alone; for a Search they are choices in the wrong slots."""
     master, rng = session.master, session.rng
     master.rom_command(rng.choice(ROM_COMMANDS))
-    bits = int.from_bytes(rom, "little")
-    for place in range(rng.randrange(64)):
-        master.slot(bits >> place & 1)
+    for bit in bits_of(rom)[:rng.randrange(64)]:
+        master.slot(bit)
 
 
 def goes_on(session):
     """The first bytes of Read Scratchpad show whether the tag is chosen."""
     session.master.write((READ_SCRATCHPAD,))
     session.master.read(3)
+
+
+def overdrive(session):
+    """Exchanges begun at either speed, whole and with a short reset inside. Each session has them all, in any order, so
+    that one session is enough to see a wrong speed."""
+    rng, master = session.rng, session.master
+    master.stray_reading = lambda: rng.getrandbits(16)  # with code 4 too, and most are above 2047
+    master.short_reset()  # the new tag still waits for a reset
+    master.write((SKIP_ROM,))
+    goes_on(session)
+    session.set_passwords()
+    trials = list(itertools.product(range(len(exchanges(session))), (False, True), (False, True)))
+    for at, fast, whole in rng.sample(trials, len(trials)):
+        bits = exchanges(session)[at]
+        exchange(session, fast, bits, len(bits) if whole else rng.randrange(1, len(bits)))
+    for fast in (False, True):  # a data byte that is cut
+        bits = bits_of((RESUME, WRITE_SCRATCHPAD, rng.randrange(0x18), 0x01, *rng.randbytes(rng.randint(1, 8))))
+        exchange(session, fast, bits, len(bits) - rng.randrange(1, 8))
+    session.look()
+    master.event(5, rng.randrange(2048, 65536))  # a code above 4 comes before a reading above 2047
+
+
+def exchanges(session):
+    """What a master may send after a reset, in slots, with the line released where it reads.
+
+    Before memory commands stands Resume, which keeps the mark: so the tag can be asked after a reset what they left.
+    """
+    rng, rom, password, ones = session.rng, session.rom, session.full_password(), b"\xFF" * 8
+    address = rng.randrange(0x200)
+    ta1, ta2 = address & 0xFF, address >> 8
+    unknown = rng.choice([byte for byte in range(256) if byte not in ROM_COMMANDS])
+    search = [slot for bit in bits_of(rom) for slot in (1, 1, bit)]
+    return [bits_of((SEARCH_ROM,)) + search, *map(bits_of, (
+        (SKIP_ROM,), (OVERDRIVE_SKIP,), (unknown,), (READ_ROM, *ones), (MATCH_ROM, *rom),
+        (MATCH_ROM, *session.flipped_rom()), (OVERDRIVE_MATCH, *rom),
+        (OVERDRIVE_MATCH, *flipped(rom, 63)), (OVERDRIVE_MATCH, *flipped(rom, rng.randrange(63))),
+        (RESUME, OVERDRIVE_SKIP), (RESUME, WRITE_SCRATCHPAD, ta1, ta2, *rng.randbytes(34 - ta1 % 32)),
+        (RESUME, READ_SCRATCHPAD, *ones), (RESUME, COPY_SCRATCHPAD, *session.tag.address_registers(), *password, 0xFF),
+        (RESUME, READ_MEMORY, ta1, ta2, *password, *ones), (RESUME, CLEAR, *password, 0xFF),
+        (RESUME, FORCED_CONVERSION, 0xFF)))]
+
+
+def exchange(session, fast, bits, cut):
+    """At that speed, with a mark, and a short reset at the cut. At standard speed the exchange goes on over it."""
+    master = session.master
+    master.long_reset()
+    master.write((OVERDRIVE_MATCH if fast else MATCH_ROM, *session.rom))
+    (master.short_reset if fast else master.long_reset)()
+    for bit in bits[:cut]:
+        master.slot(bit)
+    if cut < len(bits):
+        master.short_reset()
+    if cut == len(bits) or not fast:
+        for bit in bits[cut:]:
+            master.slot(bit)
+        goes_on(session)
+    session.ticks(session.rng.randrange(2))
+    look_at_speed(session)
+
+
+def look_at_speed(session):
+    """And at the mark: Resume after a short reset, which is heard at overdrive alone, and after a long one."""
+    for reset in (session.master.short_reset, session.master.long_reset):
+        reset()
+        session.master.write((RESUME,))
+        goes_on(session)
+    session.master.short_reset()  # the long one has ended overdrive
 
 
 # ---- Kinds: scratchpad and Copy ----
@@ -259,7 +343,7 @@ def scratchpad(session):
     if session.chance(0.4):
         session.start(control=ETL | rng.choice((0, RO, SUTA, TLFS)))
     if session.chance(0.4):
-        session.tick_inside(0.05)
+        session.events_inside(0.05)
     for _ in range(rng.randint(3, 12)):
         address = rng.choice((rng.choice(EDGE_ADDRESSES), rng.randrange(0x280), rng.randrange(0x10000)))
         room = 32 - (address & 0x1F)
@@ -379,7 +463,7 @@ def read_memory(session):
     if session.chance(0.5):
         session.set_passwords()
     if session.chance(0.6):
-        session.tick_inside(rng.choice((0.1, 0.5)))
+        session.events_inside(rng.choice((0.1, 0.5)))
     for _ in range(rng.randint(2, 7)):
         address = rng.choice((rng.choice(EDGE_ADDRESSES), 0x0200, rng.randrange(0x020C, 0x0226), rng.randrange(0x3000),
                               rng.randrange(0x10000)))
@@ -409,7 +493,7 @@ def passwords(session):
     """Every command with every password, checking on, off and nearly on."""
     rng, master = session.rng, session.master
     if session.chance(0.4):
-        session.tick_inside(0.02)
+        session.events_inside(0.02)
     for _ in range(rng.randint(1, 3)):
         session.set_passwords(rng.choice((0xAA, 0xAA, 0xAA, 0x2A, 0xA8, 0x00)))
         session.store(0x0200, session.settings(control=ETL | rng.choice((0, SUTA))))
@@ -497,7 +581,7 @@ def mission(session):
         session.ticks(rng.choice((rng.randrange(10), rng.randrange(200), rng.randrange(700))))
         session.look()
         if session.chance(0.4):
-            session.tick_inside(rng.choice((0.01, 0.3)))
+            session.events_inside(rng.choice((0.01, 0.3)))
             session.look_at(0x0200, 64)
         session.look()
         session.look_at_log()
@@ -584,7 +668,7 @@ def forced(session):
         for _ in range(rng.randint(1, 3)):
             session.select()
             if session.chance(0.3):
-                session.tick_inside(0.3)
+                session.events_inside(0.3)
             master.force(rng.choice((0xFF, 0xFF, 0xFF, rng.randrange(256))))
             session.look()
     session.look_at(0x1000, 16)
@@ -659,7 +743,7 @@ def start_conditions(session):
 # ---- Kinds: noise and refusals ----
 
 def noise(session):
-    """Right commands followed by anything, resets anywhere."""
+    """Right commands followed by anything, resets of both kinds anywhere."""
     rng, master = session.rng, session.master
     if session.chance(0.5):
         session.start(rate=rng.randint(1, 3), control=ETL | rng.randrange(256))
@@ -671,10 +755,12 @@ def noise(session):
         elif kind < 8:
             master.rom_command(rng.choice(ROM_COMMANDS))
         else:
-            master.reset()
+            rng.choice((master.long_reset, master.short_reset))()
         for _ in range(rng.choice((0, 7, 8, 16, 17, rng.randrange(130)))):
             if session.chance(0.02):
                 master.tick(session.reading())
+            if session.chance(0.02):
+                master.short_reset()
             master.slot(rng.choice((0, 1, 1)))
     session.look()
 
@@ -690,20 +776,21 @@ def walk(session):
 
 
 def refused_event(session):
-    """A short life and a bad last event. Code above 3 comes before a reading above 2047."""
+    """A short life and a bad last event. Code above 4 comes before a reading above 2047."""
     rng, master = session.rng, session.master
     for _ in range(rng.randrange(4)):
         session.select()
         master.write_bits(rng.getrandbits(8), rng.randrange(9))
         session.ticks(rng.randrange(3))
-    code = rng.choice((3, 4, 5, 128, 255, rng.randrange(4, 256)))
+    code = rng.choice((3, 5, 6, 128, 255, rng.randrange(5, 256)))
     reading = rng.choice((2048, 0xFFFF, rng.randrange(2048, 65536))) if code == 3 else rng.getrandbits(16)
     master.event(code, reading)
 
 
 KINDS = [(kind.__name__, kind) for kind in (
-    rom_commands, scratchpad, copy_conditions, register_pages, read_memory, passwords, stranger, clock_edges,
-    long_clock, mission, delays, large_rate, forced, waiting, start_conditions, noise, walk, refused_event)]
+    rom_commands, overdrive, scratchpad, copy_conditions, register_pages, read_memory, passwords, stranger,
+    clock_edges, long_clock, mission, delays, large_rate, forced, waiting, start_conditions, noise, walk,
+    refused_event)]
 KINDS += [(f"log_end, TLFS {tlfs > 0:d} RO {ro > 0:d} SUTA {suta > 0:d}", log_end(tlfs, ro, suta))
           for tlfs in (0, TLFS) for ro in (0, RO) for suta in (0, SUTA)]
 

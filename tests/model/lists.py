@@ -1,9 +1,10 @@
-"""Many events in one call (change request #101 and its rulings R101.1 to R101.5), and lists of them given to a new tag."""
+"""Many events in one call (change request #101 and its rulings R101.1 to R101.7), and lists of them given to a new tag."""
 
 from typing import NamedTuple
 
 from .tag import IMAGE_LENGTH, new
 
+SLOTS_AND_RESETS = (0, 1, 2, 4)  # their words are their codes
 FIRST_TICK, LAST_TICK = 4096, 6143  # a tick's word is 4096 and the reading
 REFUSED_WORD, BAD_IMAGE, BAD_RECORD, FEW_REPLIES = 1, 3, 6, 17
 UNUSED_REPLY, UNUSED_IMAGE = b"\x77", b"\x55"  # what the lent bytes hold before
@@ -18,8 +19,8 @@ class Played(NamedTuple):
 
 
 def event_of(word):
-    """The code and the reading, or None for a word that is refused (R101.1)."""
-    if word <= 2:
+    """The code and the reading, or None for a word that is refused (R101.1, R101.7)."""
+    if word in SLOTS_AND_RESETS:
         return word, 0
     if FIRST_TICK <= word <= LAST_TICK:
         return 3, word - FIRST_TICK

@@ -7,10 +7,10 @@ program has stopped, so a session must stop there too: `refused` says so.
 from . import dock
 from .crc import crc16_sent
 from .tag import (
-    CLEAR, CONDITIONAL_SEARCH, COPY_SCRATCHPAD, FORCED_CONVERSION, MATCH_ROM, READ_MEMORY, READ_ROM, READ_SCRATCHPAD,
-    RESUME, SEARCH_ROM, SKIP_ROM, START, STOP, WRITE_SCRATCHPAD)
+    CLEAR, CONDITIONAL_SEARCH, COPY_SCRATCHPAD, FORCED_CONVERSION, MATCH_ROM, OVERDRIVE_MATCH, OVERDRIVE_SKIP,
+    READ_MEMORY, READ_ROM, READ_SCRATCHPAD, RESUME, SEARCH_ROM, SKIP_ROM, START, STOP, WRITE_SCRATCHPAD)
 
-LOW, RELEASED, RESET, TICK = 0, 1, 2, 3
+LOW, RELEASED, LONG_RESET, TICK, SHORT_RESET = 0, 1, 2, 3, 4
 ANY_PASSWORD = b"\xFF" * 8
 
 
@@ -20,8 +20,9 @@ class Master:
         self.triples = bytearray()
         self.answers = bytearray()
         self.refused = 0
-        self.before_slot = None  # called before each slot: ticks inside bytes
+        self.before_slot = None  # called before each slot: ticks and short resets inside bytes
         self.stray_reading = None  # gives the readings of slots and resets, which don't count
+        self.short = None  # whether the reset before a ROM command is a short one; without it none is
 
     # ---- Events ----
 
@@ -34,13 +35,22 @@ class Master:
         self.refused = number
         return bit
 
+    def without_reading(self, code):
+        return self.event(code, self.stray_reading() if self.stray_reading else 0)
+
     def slot(self, bit):
         if self.before_slot:
             self.before_slot()
-        return self.event(bit, self.stray_reading() if self.stray_reading else 0)
+        return self.without_reading(bit)
+
+    def long_reset(self):
+        return self.without_reading(LONG_RESET)
+
+    def short_reset(self):
+        return self.without_reading(SHORT_RESET)
 
     def reset(self):
-        return self.event(RESET, self.stray_reading() if self.stray_reading else 0)
+        return self.short_reset() if self.short and self.short() else self.long_reset()
 
     def tick(self, reading):
         self.event(TICK, reading)
@@ -78,6 +88,13 @@ class Master:
 
     def match(self, rom):
         self.rom_command(MATCH_ROM)
+        self.write(rom)
+
+    def overdrive_skip(self):
+        self.rom_command(OVERDRIVE_SKIP)
+
+    def overdrive_match(self, rom):
+        self.rom_command(OVERDRIVE_MATCH)
         self.write(rom)
 
     def search(self, rom, conditional=False):

@@ -17,6 +17,10 @@ SESSION_FAULTS = (
     ("00\n", MISUSED, "line 1: the first frame is 04"), (NEW_TAG + NEW_TAG, MISUSED, "line 2: a new tag is the first frame only"),
     (NEW_TAG + "01 C\n", MISUSED, "line 2: '01 C' is not pairs"), (NEW_TAG + "01 GG\n", MISUSED, "line 2: '01 GG' is not pairs"),
     (NEW_TAG + "\n07 00\n", MISUSED, "line 3: 07 is no frame"), (NEW_TAG + "?? 00\n", MISUSED, "line 2: ?? is no frame"),
+    (NEW_TAG + "06\n", MISUSED, "06 is no frame: 00 reset, 01 write, 02 read, 03 tick, 04 new tag, 05 short reset"),
+    ("05\n", MISUSED, "line 1: the first frame is 04"), ("05 40 412BC5FB000000A1\n", MISUSED, "line 1: the first frame is 04"),
+    (NEW_TAG + "05 11\n", MISUSED, "line 2: frame 05 takes no bytes"), (NEW_TAG + "05 0000\n", MISUSED, "and here are 2"),
+    (NEW_TAG + "05 ??\n", MISUSED, "line 2: ?? is for bytes read"), (NEW_TAG + "05 x0\n", MISUSED, "line 2: x0 times"),
     (NEW_TAG + "01\n", MISUSED, "line 2: frame 01 takes one byte"),
     (NEW_TAG + "02\n", MISUSED, "line 2: frame 02 takes one byte"),
     (NEW_TAG + "00 11\n", MISUSED, "line 2: frame 00 takes no bytes"),
@@ -34,7 +38,7 @@ SESSION_FAULTS = (
 LISTING_FAULTS = (
     ("", MISUSED, "is no session, dump or listing: it is empty"), ("\n  \n", MISUSED, "it is empty"),
     ("hello\n", MISUSED, "is no session, dump or listing: it begins with 'hello'"),
-    ("a\0b\x1b[31m\n", MISUSED, "it begins with 'a\\x00b"),
+    ("a\0b\x1b[31m\n", MISUSED, "it begins with 'a\\x00b"), ("05\n" + NEW_TAG, MISUSED, "it begins with '05'"),
     ("R07\n", REFUSED, "refused the dump with 07: the dump is not 18,834 bytes"),
     ("R10\n", REFUSED, "refused the dump with 10: the tag's memory is cleared"), ("R11\n", REFUSED, "refused the dump with 11"),
     ("50000000000000000000AB\n", MISUSED, "is no session"), ("400000000100300512112\n", MISUSED, "line 1: not a listing"),
@@ -61,6 +65,7 @@ WORDS = (
     ([READER, "play", "-", "--play", "echo"], FAILED, "did not answer each of the 1 events"),
     ([READER, "play", "-", "--play", "printf '\\n1'"], FAILED, "did not answer each of the 1 events"),
     ([READER, "play", "-", "--play", "echo R99"], REFUSED, "line 1: the tag refused with 99: no known refusal"),
+    ([READER, "play", "-", "--play", "echo R01"], REFUSED, "line 2: the tag refused with 01: an event code above 4"),
     ([READER, "table", "examples/landing.dump", "--list", "echo 41"], FAILED, "what 'echo 41' printed for examples/landing.dump"),
     ([READER, "play", "-", "-o", "/nowhere/out"], FAILED, "can't write /nowhere/out: no such file"),
     ([READER, "play", "-", "-o", TOP], FAILED, "is a directory"),
@@ -185,6 +190,20 @@ def disagreements():
     yield "many such bytes are not all told", said == 10, said
 
 
+def unrecorded():
+    """A recording has no frame for a short reset: the first is told, before anything is played, and nothing is written."""
+    session = NEW_TAG + "00\n01 3C\n\n05\n01 33\n02 00\n05 x2\n"
+    with tempfile.TemporaryDirectory() as folder:
+        words = ["-", "--play", f"touch {os.path.join(folder, 'played')}"]
+        for where in ([], ["-o", os.path.join(folder, "out")]):
+            done = start([READER, "record", *words, *where], session)
+            yield f"record {where}, a short reset", *one_line(done, MISUSED, "standard input, line 5: a short reset (05), which")
+            left = done.stdout, leftovers(folder)
+            yield f"record {where}, a short reset, what is left", left == (b"", []), left
+        start([READER, "play", *words], session)
+        yield "play, a short reset, is played", leftovers(folder) == ["played"], leftovers(folder)
+
+
 def one_line_among(done, says):
     lines = [line for line in done.stderr.decode().split("\n") if says in line]
     return done.returncode == REFUSED and len(lines) == 1, (done.returncode, done.stderr[-300:])
@@ -208,5 +227,5 @@ def kitless():
 
 
 def checks():
-    for group in (told, nowhere_to_write, closed_pipe, whole_or_not, disagreements, kitless):
+    for group in (told, nowhere_to_write, closed_pipe, whole_or_not, disagreements, unrecorded, kitless):
         yield from group()

@@ -26,7 +26,8 @@ def statuses():
             (["list"], dump, DONE, content("examples", "landing.listing")), (["list"], b"", REFUSED, b"R07\n"),
             (["list"], dump[:-1] + b"\r", REFUSED, b"R07\n"), (["play"], NEW_TAG + b"\2\0\0\3\0\0", DONE, b"0\n1\n"),
             (["play"], NEW_TAG, DONE, b""), (["play"], b"", REFUSED, b"R04\n"),
-            (["play"], NEW_TAG + b"\2\0\0\4\0\0\2\0\0", REFUSED, b"0\nR01\n")):
+            (["play"], NEW_TAG + b"\2\0\0\4\xFF\xFF", DONE, b"0\n1\n"),
+            (["play"], NEW_TAG + b"\2\0\0\5\0\0\2\0\0", REFUSED, b"0\nR01\n")):
         done = start([RUN, *words], stdin)
         yield f"run {words} with {stdin[:20]}", (done.returncode, done.stdout) == (status, output), done
     for word in ("--help", "-h"):

@@ -139,6 +139,22 @@ def evidence():
     yield "a note", "&lt;i&gt;Bag 7&lt;/i&gt;\nlot \\udcff" in page and "<i>" not in page, page[:1500]
 
 
+def at_overdrive():
+    """A session that ends at overdrive, within a command: its dump begins with a long reset, and is what it was before."""
+    session = content("examples/landing.session") + b"05 x3\n00\n01 3C\n05\n01 69 412BC5FB000000A1 69 00\n"
+    dump = content("examples/landing.dump").decode()
+    yield "the dump at overdrive", shown("dump", "-", *LANDING[1:], stdin=session) == dump, None
+    expected = shown("table", "examples/landing.dump", "--csv")
+    got = shown("table", "-", *LANDING[1:], "--csv", stdin=session)
+    yield "the table at overdrive", got == expected, got[:300]
+    for word in FORMS[1:]:
+        got = shown(word, "-", *LANDING[1:], stdin=session)
+        yield f"the {word} at overdrive", ROM in got and well_formed(word, got), got[:300]
+    with tempfile.TemporaryDirectory() as folder:
+        got = shown("show", "-", *LANDING[1:], "-o", folder, stdin=session)
+        yield "show at overdrive", ROM in got and content(folder, "shown.dump").decode() == dump, got[:300]
+
+
 def thresholds():
     for more, says in (((), "at or above 10.0 °C (high, set in the tag)."),
                        (("--high", "11"), "11.0 °C (high, given with --high)"),
@@ -165,5 +181,5 @@ def long_logs():
 
 
 def checks():
-    for group in (odd_logs, figures, evidence, thresholds, long_logs):
+    for group in (odd_logs, figures, evidence, at_overdrive, thresholds, long_logs):
         yield from group()

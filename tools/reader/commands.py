@@ -23,12 +23,11 @@ docs/READER.md says more; examples/README.md has sessions and how they are writt
 
 # ---- Commands ----
 
-def played(given):
-    """A session's text, its frames, and the bytes that each frame read."""
+def session(given):
+    """A session's name, its text and its frames."""
     name = files.name_of(given.file)
     text = files.text_of(files.read(given.file), name)
-    frames = sessions.parse(text, name)
-    return text, frames, line.play(given.play, frames, name)
+    return name, text, sessions.parse(text, name)
 
 
 def judged(name, wrong):
@@ -41,15 +40,18 @@ def judged(name, wrong):
 
 
 def play(given):
-    text, frames, answers = played(given)
+    name, text, frames = session(given)
+    answers = line.play(given.play, frames, name)
     files.write(given.output, sessions.filled(text, frames, answers))
-    return judged(files.name_of(given.file), sessions.disagreements(frames, answers))
+    return judged(name, sessions.disagreements(frames, answers))
 
 
 def record(given):
-    _, frames, answers = played(given)
+    name, _, frames = session(given)
+    sessions.check_recordable(frames, name)
+    answers = line.play(given.play, frames, name)
     files.write(given.output, "".join(sessions.strict(frames, answers)))
-    return judged(files.name_of(given.file), sessions.disagreements(frames, answers))
+    return judged(name, sessions.disagreements(frames, answers))
 
 
 def take_dump(given):
@@ -61,11 +63,10 @@ def take_dump(given):
 
 
 def dump(given):
-    name = files.name_of(given.file)
-    frames = sessions.parse(files.text_of(files.read(given.file), name), name)
+    name, _, frames = session(given)
     text, answers = line.take_dump(given.play, frames, password.ask(given), name)
     files.write(given.output, text)
-    return judged(files.name_of(given.file), sessions.disagreements(frames, answers))
+    return judged(name, sessions.disagreements(frames, answers))
 
 
 def seen(given):
@@ -156,7 +157,8 @@ COMMANDS = {
                     (options.new_file, options.list_program)),
     "play": Command(play, "SESSION", "plays a session to a new tag and prints it with the bytes read filled in",
                     (options.output, options.play_program)),
-    "record": Command(record, "SESSION", "the same, in the strict form of a recording", (options.output, options.play_program)),
+    "record": Command(record, "SESSION", "the same, in the strict form of a recording, which has no short reset",
+                      (options.output, options.play_program)),
     "take": Command(take_dump, "DEVICE", "reads a real tag's dump through the kernel's 1-Wire files (docs/TAKE.md)",
                     (options.secret, options.output)),
     "dump": Command(dump, "SESSION", "plays a session, then reads the dump over the line, by Read Memory",

@@ -3,7 +3,7 @@
 from . import Fault, Refusal
 from .listing import REFUSALS
 from .programs import refusal_in, run
-from .sessions import ANY, READ, RESET, TICK, WRITE, Frame, events_in
+from .sessions import ANY, READ, RESET, SHORT_RESET, TICK, WRITE, Frame, events_in
 
 FAMILY = 0x41  # the first ROM byte of a DS1922
 MATCH_ROM, READ_MEMORY = 0x55, 0x69
@@ -11,7 +11,8 @@ PAGES = (0x0200, 0x0220, *range(0x1000, 0x3000, 32))  # of a dump, in its order
 PAGE_BYTES, CRC_BYTES = 32, 2
 
 # An event is three bytes: its code and a reading, which counts for a tick alone.
-RESET_EVENT = b"\2\0\0"
+RESET_EVENT, SHORT_RESET_EVENT = b"\2\0\0", b"\4\0\0"
+OF_EVENTS = (1, 2, 6)  # the refusals that are given to an event, and never to a new tag
 BYTE_EVENTS = [b"".join(bytes((byte >> place & 1, 0, 0)) for place in range(8)) for byte in range(256)]
 
 
@@ -19,6 +20,8 @@ def events_of(frame):
     """What `play` reads for a frame that is no new tag."""
     if frame.kind == RESET:
         once = RESET_EVENT
+    elif frame.kind == SHORT_RESET:
+        once = SHORT_RESET_EVENT
     elif frame.kind == TICK:
         once = bytes((TICK, *frame.data))
     else:  # a byte is read by eight released slots, as FF is written
@@ -46,7 +49,7 @@ def check_answers(output, frames, name):
     number = refusal_in(output)
     if number:
         answered = (len(output) - 4) // 2
-        line = frames[0].line if not answered else line_of_event(frames, answered)
+        line = line_of_event(frames, answered) if answered or number in OF_EVENTS else frames[0].line
         raise Refusal(f"{name}, line {line}: the tag refused with {number:02d}: {REFUSALS.get(number, 'no known refusal')}")
     if len(output) != 2 * total or output[::2].strip(b"01") or output[1::2].strip(b"\n"):
         raise Fault(f"'play' did not answer each of the {total:,} events of {name} with 0 or 1")
@@ -63,7 +66,8 @@ def line_of_event(frames, event):
 # ---- The dump ----
 
 def dump_frames(rom, password):
-    """Each page read first, by a Read Memory of its own: so that its CRC is over command, address and data."""
+    """Each page read first, by a Read Memory of its own: so that its CRC is over command, address and data. A long reset is heard
+    at either speed, whatever the session left."""
     for page in PAGES:
         yield Frame(RESET, [])
         yield Frame(WRITE, [MATCH_ROM, *rom, READ_MEMORY, page & 0xFF, page >> 8, *password])

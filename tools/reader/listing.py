@@ -6,7 +6,7 @@ from collections import namedtuple
 from . import Misuse, Refusal
 
 REFUSALS = {
-    1: "an event code above 3",
+    1: "an event code above 4",
     2: "a tick with a reading above 2047",
     3: "the image is not 8,832 bytes long",
     4: "a new tag whose first ROM byte is not 41h, or whose CRC-8 is wrong",

@@ -1,14 +1,15 @@
 """Sessions: what a master does on the line, as frames in hexadecimal, one a line.
 
     04 40 412BC5FB000000A1   a new tag: the code, then the eight ROM bytes; the first frame, and there alone
-    00                       reset
+    00                       reset: the long one, which ends overdrive
     01 CC 69 00 02           bytes written
     02 41 ?? ??              bytes read: ?? is any byte, a byte that is given is compared with what the tag sends
     03 0150                  a tick of one second with its reading, high byte first, 07FF at most
+    05                       short reset: at overdrive a reset that keeps the speed, at standard speed nothing at all
     03 0150 x3600            a frame that many times; 02 ?? x34 reads 34 bytes
 
 Blanks may stand anywhere between bytes, # begins a comment, lower case is taken. The strict form has none of these: upper
-case pairs alone, a line for each frame, 64 bytes at most in a line.
+case pairs alone, a line for each frame, 64 bytes at most in a line. It has the frames 00 to 04 alone, and none for a short reset.
 """
 
 import re
@@ -16,7 +17,7 @@ from collections import namedtuple
 
 from . import Misuse
 
-RESET, WRITE, READ, TICK, NEW_TAG = range(5)
+RESET, WRITE, READ, TICK, NEW_TAG, SHORT_RESET = range(6)
 ANY = None  # a byte to be read, whatever it is
 LARGEST_READING = 2047
 LARGEST_SESSION = 20_000_000  # events; a tick a second makes 231 days
@@ -70,15 +71,15 @@ def parse_line(line, number):
 def check(frame, first):
     """A ValueError says what is wrong with a frame."""
     kind, data = frame.kind, frame.data
-    if kind is ANY or kind > NEW_TAG:
-        raise ValueError(f"{hex_of([kind])} is no frame: 00 reset, 01 write, 02 read, 03 tick, 04 new tag")
+    if kind is ANY or kind > SHORT_RESET:
+        raise ValueError(f"{hex_of([kind])} is no frame: 00 reset, 01 write, 02 read, 03 tick, 04 new tag, 05 short reset")
     if first != (kind == NEW_TAG):
         raise ValueError("the first frame is 04, the code and eight ROM bytes" if first else "a new tag is the first frame only")
     if kind != READ and ANY in data:
         raise ValueError("?? is for bytes read, in frame 02, alone")
     if frame.times == 0 or kind == NEW_TAG and frame.times > 1:
         raise ValueError("a new tag comes once" if frame.times else "x0 times is no frame")
-    wanted = {NEW_TAG: 9, RESET: 0, TICK: 2}.get(kind)
+    wanted = {NEW_TAG: 9, RESET: 0, SHORT_RESET: 0, TICK: 2}.get(kind)
     if wanted is not None and len(data) != wanted:
         raise ValueError(f"frame {kind:02X} takes {wanted or 'no'} bytes after its own, and here are {len(data)}")
     if wanted is None and not data:
@@ -111,6 +112,13 @@ def filled_line(line, frame, answer):
         return " ".join(("02", *groups)) + blanks + mark + comment
     pairs = iter(("02", *(f"{byte:02X}" for byte in answer)))
     return PAIR.sub(lambda _: next(pairs), kept) + blanks + mark + comment
+
+
+def check_recordable(frames, name):
+    """A recording is there to hold another tag against, and its form has no frame for a short reset."""
+    for frame in frames:
+        if frame.kind == SHORT_RESET:
+            raise Misuse(f"{name}, line {frame.line}: a short reset (05), which a recording has no frame for")
 
 
 def strict(frames, answers):

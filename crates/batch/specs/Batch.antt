@@ -17,16 +17,20 @@ pub mod Cuts
 
 -- ---- a word
 
--- "0, 1 and 2 as before and 4096 plus the reading for a tick"; "Words above 6143 or between 3 and 4095 are refused"
+-- "0, 1 and 2 as before"; "in the lists of #101 the word 4 is the short reset" (request #103)
+unfoldable pub isCode : ℕ → Bool
+isCode word = leb word 2 || eqb word 4
+
+-- "and 4096 plus the reading for a tick"; "Words above 6143 or between 3 and 4095 are refused", but for 4
 unfoldable pub isEvent : ℕ → Bool
-isEvent word = leb word 2 || (leb 4096 word && leb word 6143)
+isEvent word = isCode word || (leb 4096 word && leb word 6143)
 
 -- the code and the reading that an event has by itself
 unfoldable pub codeOf : ℕ → ℕ
-codeOf word = if leb word 2 then word else 3
+codeOf word = if isCode word then word else 3
 
 unfoldable pub readingOf : ℕ → ℕ
-readingOf word = if leb word 2 then 0 else word - 4096
+readingOf word = if isCode word then 0 else word - 4096
 
 -- ---- a list
 

@@ -5,7 +5,7 @@ use record::Answered;
 use record::Tag;
 ghost use mathlib.Core.Path.{_≡_};
 ghost use Rattle.bits.specs.Bits.{digit};
-ghost use Rattle.batch.specs.Batch.{isEvent, returned, listed};
+ghost use Rattle.batch.specs.Batch.{isCode, isEvent, returned, listed};
 ghost use Rattle.batch.specs.Batch.Laws.{eventIn};
 
 // What a list returns: the answer, the record, and how many of its words are done.
@@ -15,8 +15,8 @@ pub struct Batch {
     pub done: usize,
 }
 
-// A list of events: word 0 a slot with the line held low, 1 a slot with the line released, 2 a reset, 4096 plus a reading up to 2047
-// a tick. Each leaves its line bit, 0 or 1, in its reply byte. Refused with 17, 3 or 6, in that order, and nothing is done. Any
+// A list of events: word 0 a slot with the line held low, 1 a slot with the line released, 2 a reset, 4 a short reset, 4096 plus a
+// reading up to 2047 a tick. Each leaves its line bit, 0 or 1, in its reply byte. Refused with 17, 3 or 6, in that order, and nothing is done. Any
 // other word ends the list with 1; the words before it are done, and the reply bytes from it on stay as they were.
 pub fn events(image: &mut [u8], tag: Tag, words: &[u16], replies: &mut [u8]) -> Batch
     ensures { λ r. ⌜ r ≡ listed (now (image .entry)) tag (now (words .entry)) (now (replies .entry)) .batch ⌝ }
@@ -56,7 +56,14 @@ fn left(answer: Answer, tag: Tag, done: usize) -> Batch
 fn is_event(word: u16) -> bool
     ensures { λ r. ⌜ r ≡ isEvent word ⌝ }
 {
-    word <= 2 || 4096 <= word && word <= 6143
+    is_code(word) || 4096 <= word && word <= 6143
+}
+
+// Whether a word is an event by its code alone: a slot or a reset.
+fn is_code(word: u16) -> bool
+    ensures { λ r. ⌜ r ≡ isCode word ⌝ }
+{
+    word <= 2 || word == 4
 }
 
 // The event of a word that is one.
@@ -67,6 +74,7 @@ fn event(image: &mut [u8], tag: Tag, word: u16) -> Answered
     match word {
         0..=1 => event::slot(image, tag, word == 1),
         2 => event::reset(tag),
+        4 => event::short_reset(tag),
         _ => event::tick(image, tag, word % 4096),
     }
 }

@@ -1,5 +1,6 @@
--- What each event does to a tag (document 01, "Events and what they return"): a slot, a reset, a tick. Assumes nothing.
-use mathlib.Core.Bool.{Bool, true, false}
+-- What each event does to a tag (document 01, "Events and what they return"; request #103): a slot, a reset, a short
+-- reset, a tick. Assumes nothing.
+use mathlib.Core.Bool.{Bool, true, false, not}
 use mathlib.Core.List.{List}
 use Prim.Native.Nat.{ℕ}
 use Rattle.bits.specs.Bits.{digit}
@@ -62,7 +63,7 @@ unfoldable pub slotted : List ℕ → Tag → Bool → Outcome
 slotted image tag bit =
     done tag image (exchange.slotOf (tag .exchange) bit (answerTo image (tag .code) (exchange.asks (tag .exchange) bit)))
 
--- ---- a reset and a tick
+-- ---- resets and a tick
 
 -- "2 reset": bit 0, the presence
 abbrev pub present : Tag → Answered
@@ -71,6 +72,16 @@ present tag = accepted (record { code = tag .code; counters = tag .counters; exc
 -- it has nothing to do with the image
 unfoldable pub resetTag : List ℕ → Tag → Outcome
 resetTag image tag = record { answered = present tag; image = image }
+
+-- "Event code 4 is a short reset": bit 0, the presence, at overdrive; "at standard speed nothing at all (bit 1)"
+abbrev pub shortened : Tag → Answered
+shortened tag =
+    accepted (record { code = tag .code; counters = tag .counters; exchange = exchange.afterShort (tag .exchange) })
+    (not (tag .exchange .select .mode .speed))
+
+-- nor has that
+unfoldable pub shortTag : List ℕ → Tag → Outcome
+shortTag image tag = record { answered = shortened tag; image = image }
 
 -- "3 tick of one second": bit 1
 unfoldable pub tickTag : List ℕ → Tag → ℕ → Outcome

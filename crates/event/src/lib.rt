@@ -1,4 +1,4 @@
-// What each event does to a tag, once its record and image are found right: a slot, a reset, a tick. One account of it, for whoever
+// What each event does to a tag, once its record and image are found right: a slot, a reset, a short one, a tick. One account of it, for whoever
 // asks first: `tag::event` at every event, `batch::events` once a list.
 use bus::Deed;
 use bus::Question;
@@ -8,7 +8,7 @@ use record::Answered;
 use record::Tag;
 ghost use mathlib.Core.Path.{_≡_};
 ghost use Rattle.bits.specs.Bits.{digit};
-ghost use Rattle.event.specs.Event.{answerTo, performed, performedCounters, slotted, present, tickTag};
+ghost use Rattle.event.specs.Event.{answerTo, performed, performedCounters, slotted, present, shortened, tickTag};
 
 // A slot: the exchange asks, the image answers, the exchange moves on, and its deed is done to the image.
 pub fn slot(image: &mut [u8], tag: Tag, bit: bool) -> Answered
@@ -42,6 +42,23 @@ pub fn reset(tag: Tag) -> Answered
         exchange,
     };
     record::accept(next, false)
+}
+
+// A short reset: the presence at overdrive, bit 1 at standard speed.
+pub fn short_reset(tag: Tag) -> Answered
+    ensures { λ r. ⌜ r ≡ shortened tag ⌝ }
+{
+    let x = tag.exchange;
+    let select = x.select;
+    let mode = select.mode;
+    let counters = tag.counters;
+    let exchange = exchange::short_reset(x);
+    let next = Tag {
+        code: tag.code,
+        counters,
+        exchange,
+    };
+    record::accept(next, !mode.speed)
 }
 
 // A tick of one second with its reading: bit 1.

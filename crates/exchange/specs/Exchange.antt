@@ -1,5 +1,5 @@
--- The exchange as a whole: what a reset leaves, what a slot asks of the image, and what it gives (document 01, "Choosing a tag
--- on the line" and "Memory commands"). Assumes nothing.
+-- The exchange as a whole: what a reset leaves, long or short, what a slot asks of the image, and what it gives (document 01, "Choosing a
+-- tag on the line" and "Memory commands"; request #103). Assumes nothing.
 use mathlib.Core.Bool.{Bool, _&&_}
 use Prim.Native.Nat.{ℕ}
 use lib.Dec.{eqb}
@@ -13,6 +13,7 @@ use Rattle.bus.specs.Bus.{newHeld, clearBus}
 use Rattle.memory.specs.Memory as memory
 use Rattle.memory.specs.Range.{memoryInRange}
 use Rattle.select.specs.declared.Chosen.{Chosen}
+use Rattle.select.specs.declared.Select.{Select}
 use Rattle.select.specs.Select as select
 use Rattle.exchange.specs.declared.Exchange.{Exchange}
 use Rattle.exchange.specs.declared.Slotted.{Slotted}
@@ -24,15 +25,17 @@ abbrev pub newExchange : ℕ → Exchange
 newExchange number =
     record { number = number; select = select.newSelect; held = newHeld; bus = clearBus Stage.Over }
 
--- a reset: a ROM command is heard next, then a memory command; scratchpad, TA, E/S and the Resume mark stay
+-- a ROM command is heard next, then a memory command; scratchpad, TA and E/S stay
+abbrev pub begun : Exchange → Select → Exchange
+begun x next = record { number = x .number; select = next; held = x .held; bus = clearBus (Stage.Hears Hearing.Command) }
+
+-- a reset: the Resume mark stays, and the speed is standard
 abbrev pub afterReset : Exchange → Exchange
-afterReset x =
-    record {
-      number = x .number;
-      select = select.resetSelect (x .select);
-      held = x .held;
-      bus = clearBus (Stage.Hears Hearing.Command);
-    }
+afterReset x = begun x (select.resetSelect (x .select))
+
+-- "a short reset: at overdrive a reset that keeps the speed, at standard speed nothing at all"
+unfoldable pub afterShort : Exchange → Exchange
+afterShort x = if x .select .mode .speed then begun x (select.restarted (x .select)) else x
 
 -- what a slot asks of the image
 unfoldable pub asks : Exchange → Bool → Question

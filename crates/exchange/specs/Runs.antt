@@ -1,5 +1,5 @@
 -- Runs of slots of a tag: what the line carries and what is to be done, over an image that answers as `answers` does. Assumes nothing.
-use mathlib.Core.Bool.{Bool, true, false}
+use mathlib.Core.Bool.{Bool, true, false, _||_}
 use mathlib.Core.List.{List, [], _∷_, _++_, map}
 use Prim.Native.Nat.{ℕ}
 use Rattle.bits.specs.Bits.{bitsOf, released}
@@ -11,8 +11,10 @@ use Rattle.bus.specs.declared.Question.{Question}
 use Rattle.bus.specs.declared.Stage.{Stage}
 use Rattle.bus.specs.Bus.{clearBus}
 use Rattle.select.specs.declared.Choosing.the-variants.{Selected}
-use Rattle.select.specs.Select.{keeps}
+use Rattle.select.specs.declared.Mode.{Mode}
+use Rattle.select.specs.Select.{keeps, unmarked}
 use Rattle.select.specs.Runs.{searchWith, searchAnswers}
+use Rattle.select.specs.Runs.Laws.{matchByte, skipByte}
 use Rattle.exchange.specs.declared.Exchange.{Exchange}
 use Rattle.exchange.specs.Exchange.{asks, slotOf}
 pub mod Laws
@@ -44,39 +46,40 @@ quietly x line = record { exchange = x; line = line; deeds = map (λ bit. Deed.N
 
 -- ---- a chosen tag
 
--- a tag with this number that is chosen, with this Resume mark: a memory command goes on over what is held
-abbrev pub commanding : ℕ → Bool → Held → Bus → Exchange
-commanding number mark held bus = record { number = number; select = keeps mark Selected; held = held; bus = bus }
+-- a tag with this number that is chosen, with this Resume mark and speed: a memory command goes on over what is held
+abbrev pub commanding : ℕ → Mode → Held → Bus → Exchange
+commanding number mode held bus = record { number = number; select = keeps mode Selected; held = held; bus = bus }
 
 -- it has just been chosen: a memory command is heard next
-abbrev pub chosen : ℕ → Bool → Held → Exchange
-chosen number mark held = commanding number mark held (clearBus (Stage.Hears Hearing.Command))
+abbrev pub chosen : ℕ → Mode → Held → Exchange
+chosen number mode held = commanding number mode held (clearBus (Stage.Hears Hearing.Command))
 
 -- ---- the ways to choose a tag after a reset
 
+-- Match and Skip in two ways each; the fast one is the overdrive one
 pub data Way : Type 0 where
   read : Way
-  match : Way
+  match : (fast : Bool) → Way
   search : Way
-  skip : Way
+  skip : (fast : Bool) → Way
 
 -- the slots of the ROM command, to the tag with this number
 unfoldable pub waySlots : Way → ℕ → List Bool
 waySlots read number = bitsOf 8 0x33 ++ released 64
-waySlots match number = bitsOf 8 0x55 ++ bitsOf 64 number
+waySlots (match fast) number = bitsOf 8 (matchByte fast) ++ bitsOf 64 number
 waySlots search number = bitsOf 8 0xF0 ++ searchWith (bitsOf 64 number)
-waySlots skip number = bitsOf 8 0xCC
+waySlots (skip fast) number = bitsOf 8 (skipByte fast)
 
 -- what the line carries in them
 unfoldable pub wayLine : Way → ℕ → List Bool
 wayLine read number = bitsOf 8 0x33 ++ bitsOf 64 number
-wayLine match number = bitsOf 8 0x55 ++ bitsOf 64 number
+wayLine (match fast) number = bitsOf 8 (matchByte fast) ++ bitsOf 64 number
 wayLine search number = bitsOf 8 0xF0 ++ searchAnswers (bitsOf 64 number)
-wayLine skip number = bitsOf 8 0xCC
+wayLine (skip fast) number = bitsOf 8 (skipByte fast)
 
--- the Resume mark: "a whole Match or either whole Search sets it"
-unfoldable pub wayMark : Way → Bool
-wayMark read = false
-wayMark match = true
-wayMark search = true
-wayMark skip = false
+-- the Resume mark and the speed after them, by the speed before: "a whole Match or either whole Search sets" the mark; 3Ch and 69h set the speed
+unfoldable pub wayMode : Way → Bool → Mode
+wayMode read speed = unmarked speed
+wayMode (match fast) speed = record { mark = true; speed = fast || speed }
+wayMode search speed = record { mark = true; speed = speed }
+wayMode (skip fast) speed = unmarked (fast || speed)

@@ -11,7 +11,7 @@ ghost use mathlib.Core.Path.{_≡_};
 ghost use lib.Dec.{eqb};
 ghost use Rattle.memory.specs.Memory.{slotOf as memorySlot};
 ghost use Rattle.select.specs.Select.{slotOf as selectSlot};
-ghost use Rattle.exchange.specs.Exchange.{newExchange, afterReset, asks, slotOf, commanded, choosing, exchangeInRange};
+ghost use Rattle.exchange.specs.Exchange.{newExchange, begun, afterReset, afterShort, asks, slotOf, commanded, choosing, exchangeInRange};
 
 pub struct Exchange {
     // The registration number, low byte first.
@@ -48,7 +48,26 @@ pub fn reset(x: Exchange) -> Exchange
     ensures { λ r. ⌜ r ≡ afterReset x ⌝ }
 {
     let before = x.select;
-    let select = select::reset(before);
+    begin(x, select::reset(before))
+}
+
+// A short reset does so at overdrive, and the speed stays; at standard speed it does nothing.
+pub fn short_reset(x: Exchange) -> Exchange
+    ensures { λ r. ⌜ r ≡ afterShort x ⌝ }
+{
+    let before = x.select;
+    let mode = before.mode;
+    if mode.speed {
+        begin(x, select::restart(before))
+    } else {
+        x
+    }
+}
+
+// A ROM command is heard next, as `select` says.
+fn begin(x: Exchange, select: Select) -> Exchange
+    ensures { λ r. ⌜ r ≡ begun x select ⌝ }
+{
     let held = x.held;
     let bus = bus::state::clear(Stage::Hears(Hearing::Command));
     Exchange {

@@ -25,16 +25,17 @@ pub mod Proof
 
 -- ---- words
 
--- "Words above 6143 or between 3 and 4095 are refused"
+-- "Words above 6143 or between 3 and 4095 are refused", but for 4: "in the lists of #101 the word 4 is the short reset" (request #103)
 unfoldable pub isRefused : ℕ → Bool
-isRefused word = ltb 6143 word || (leb 3 word && leb word 4095)
+isRefused word = ltb 6143 word || (eqb word 3 || (leb 5 word && leb word 4095))
 
--- "0, 1 and 2 as before and 4096 plus the reading for a tick"
+-- "0, 1 and 2 as before and 4096 plus the reading for a tick", 4 the short reset
 unfoldable pub eventOf : ℕ → Event
 eventOf word =
     if eqb word 0 then Event.slot false
     else if eqb word 1 then Event.slot true
     else if eqb word 2 then Event.reset
+    else if eqb word 4 then Event.short
     else Event.tick (word - 4096)
 
 -- "It stops at the first refused word": the events of the words before it

@@ -50,7 +50,7 @@ pub data Handed (s : State) (words : List ℕ) : ℕ → List Bool → State →
 -- ---- one after the other
 
 -- "An event is a code and a reading: 0 slot with the line held low, 1 slot with the line released, 2 reset, 3 tick of one second. The
--- reading counts only with code 3." A code above 3 and a tick with a reading above 2047 are refused
+-- reading counts only with code 3." "Event code 4 is a short reset." A code above 4 and a tick with a reading above 2047 are refused
 pub data Meaning : Type 0 where
   taken : Event → Meaning
   refused : Meaning
@@ -60,6 +60,7 @@ meaningOf code reading =
     if eqb code 0 then Meaning.taken (Event.slot false)
     else if eqb code 1 then Meaning.taken (Event.slot true)
     else if eqb code 2 then Meaning.taken Event.reset
+    else if eqb code 4 then Meaning.taken Event.short
     else if eqb code 3 && leb reading 2047 then Meaning.taken (Event.tick reading)
     else Meaning.refused
 

@@ -61,6 +61,7 @@ pub record JustReset (s : State) : Type 0 where
 pub data Alike : Event → Event → Type 0 where
   slots : (bit : Bool) → Alike (Event.slot bit) (Event.slot bit)
   resets : Alike Event.reset Event.reset
+  shorts : Alike Event.short Event.short
   ticks : (p q : ℕ) → p ≤ 2047 → q ≤ 2047 → Alike (Event.tick p) (Event.tick q)
 
 -- 4. "no password field ever carries" a password of this image
@@ -81,7 +82,7 @@ pub record Begins (s t : State) (E F : List Event) : Type 0 where
   pub checked-t : passwordControl (t .image) ≡ 0xAA
   pub number : s .tag .exchange .number ≡ t .tag .exchange .number
   pub held : s .tag .exchange .held ≡ t .tag .exchange .held
-  pub mark : s .tag .exchange .select .mark ≡ t .tag .exchange .select .mark
+  pub mark : s .tag .exchange .select .mode .mark ≡ t .tag .exchange .select .mode .mark
   pub alike : Together (λ u e v f. Alike e f) s E t F
 
 -- premise 4: in neither run a field carries any of "their four passwords"

@@ -71,6 +71,7 @@ pub record Determinacy : Type 2 where
   -- select
   pub select-waiting : Sole select.waiting.Reads.Post (λ k r e. r)
   pub select-reset : Sole select.reset.Reads.Post (λ k r e. r)
+  pub select-restart : Sole select.restart.Reads.Post (λ k r e. r)
   pub select-in-range : Sole select.in_range.Reads.Post (λ k r e. r)
   pub select-selected : Sole select.selected.Reads.Post (λ k r e. r)
   pub select-asks-alarm : Sole select.asks_alarm.Reads.Post (λ k r e. r)
@@ -98,6 +99,7 @@ pub record Determinacy : Type 2 where
   -- exchange
   pub exchange-new : Sole exchange.new.Reads.Post (λ k r e. r)
   pub exchange-reset : Sole exchange.reset.Reads.Post (λ k r e. r)
+  pub exchange-short-reset : Sole exchange.short_reset.Reads.Post (λ k r e. r)
   pub exchange-ask : Sole exchange.ask.Reads.Post (λ k r e. r)
   pub exchange-slot : Sole exchange.slot.Reads.Post (λ k r e. r)
   pub exchange-in-range : Sole exchange.in_range.Reads.Post (λ k r e. r)
@@ -123,6 +125,7 @@ pub record Determinacy : Type 2 where
   -- event
   pub event-slot : Sole event.slot.Reads.Post (λ k r e. with r (now (e .0)))
   pub event-reset : Sole event.reset.Reads.Post (λ k r e. r)
+  pub event-short-reset : Sole event.short_reset.Reads.Post (λ k r e. r)
   pub event-tick : Sole event.tick.Reads.Post (λ k r e. with r (now (e .0)))
   -- tag
   pub tag-new : Sole tag.new.Reads.Post (λ k r e. with r (now (e .0)))
@@ -185,6 +188,7 @@ determinacy =
       image-may-copy = λ k a r s e f p q. p ∙ sym q;
       select-waiting = λ k a r s e f p q. p ∙ sym q;
       select-reset = λ k a r s e f p q. p ∙ sym q;
+      select-restart = λ k a r s e f p q. p ∙ sym q;
       select-in-range = λ k a r s e f p q. p ∙ sym q;
       select-selected = λ k a r s e f p q. p ∙ sym q;
       select-asks-alarm = λ k a r s e f p q. p ∙ sym q;
@@ -208,6 +212,7 @@ determinacy =
       bus-state-pad-byte = λ k a r s e f p q. p ∙ sym q;
       exchange-new = λ k a r s e f p q. p ∙ sym q;
       exchange-reset = λ k a r s e f p q. p ∙ sym q;
+      exchange-short-reset = λ k a r s e f p q. p ∙ sym q;
       exchange-ask = λ k a r s e f p q. p ∙ sym q;
       exchange-slot = λ k a r s e f p q. p ∙ sym q;
       exchange-in-range = λ k a r s e f p q. p ∙ sym q;
@@ -229,6 +234,7 @@ determinacy =
       record-refuse = λ k a r s e f p q. p ∙ sym q;
       event-slot = λ k a r s e f p q. pair (p .0 ∙ sym (q .0)) (p .1 ∙ sym (q .1));
       event-reset = λ k a r s e f p q. p ∙ sym q;
+      event-short-reset = λ k a r s e f p q. p ∙ sym q;
       event-tick = λ k a r s e f p q. pair (p .0 ∙ sym (q .0)) (p .1 ∙ sym (q .1));
       tag-new = λ k a r s e f p q. pair (p .0 ∙ sym (q .0)) (p .1 ∙ sym (q .1));
       tag-event = λ k a r s e f p q. pair (p .0 ∙ sym (q .0)) (p .1 ∙ sym (q .1));

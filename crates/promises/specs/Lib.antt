@@ -9,5 +9,6 @@ pub mod Demand3
 pub mod Calls
 pub mod Batches
 pub mod Line
+pub mod Overdrive
 pub mod Determinacy
 pub mod Points

@@ -44,7 +44,7 @@ clearTag number code =
       counters = record { reading = 0; minute = 0; wait = 0 };
       exchange = record {
         number = number;
-        select = record { choosing = Silent; mark = false };
+        select = record { choosing = Silent; mode = record { mark = false; speed = false } };
         held = record { pad = replicate 32 0; ta = 0; ending = 0; pf = false; aa = false };
         bus = record { stage = Stage.Over; byte = 0; at = 0; crc = 0; address = 0; status = 0; field = 0 };
       };
@@ -61,10 +61,10 @@ keepsRanges tag =
     && (leb (tag .counters .reading) 2047 && ltb (tag .counters .minute) 60 && ltb (tag .counters .wait) (16383 * 60))
     && exchangeInRange (tag .exchange)
 
--- 1: "event code above 3"; 2: "tick with a reading above 2047"
+-- 1: "Answer 1 now begins above 4"; 2: "tick with a reading above 2047"
 unfoldable pub ownNumber : ℕ → ℕ → ℕ
 ownNumber code reading =
-    if ltb 3 code then 1
+    if ltb 4 code then 1
     else if eqb code 3 && ltb 2047 reading then 2
     else 0
 

@@ -1,5 +1,5 @@
--- Runs: events one after the other, and the states that they reach from a new tag (document 01, "Events and what they return").
--- Assumes nothing.
+-- Runs: events one after the other, and the states that they reach from a new tag (document 01, "Events and what they return"; request
+-- #103). Assumes nothing.
 use mathlib.Core.Bool.{Bool}
 use mathlib.Core.List.{List, [], _∷_}
 use mathlib.Core.Path.{_≡_}
@@ -16,22 +16,25 @@ pub record State : Type 0 where
   pub image : List ℕ
   pub tag : Tag
 
--- "0 slot with the line held low, 1 slot with the line released, 2 reset, 3 tick of one second"
+-- "0 slot with the line held low, 1 slot with the line released, 2 reset, 3 tick of one second"; "Event code 4 is a short reset"
 pub data Event : Type 0 where
   slot : Bool → Event
   reset : Event
   tick : ℕ → Event
+  short : Event
 
 abbrev pub codeOf : Event → ℕ
 codeOf (Event.slot bit) = digit bit
 codeOf Event.reset = 2
 codeOf (Event.tick reading) = 3
+codeOf Event.short = 4
 
 -- "The reading counts only with code 3"
 abbrev pub readingOf : Event → ℕ
 readingOf (Event.slot bit) = 0
 readingOf Event.reset = 0
 readingOf (Event.tick reading) = reading
+readingOf Event.short = 0
 
 -- ---- one event
 
@@ -69,6 +72,17 @@ ticksOf [] = []
 ticksOf (Event.slot bit ∷ es) = ticksOf es
 ticksOf (Event.reset ∷ es) = ticksOf es
 ticksOf (Event.tick reading ∷ es) = Event.tick reading ∷ ticksOf es
+ticksOf (Event.short ∷ es) = ticksOf es
+
+-- ---- what stays
+
+-- nothing has changed but the bus state and the Resume mark; `held` is scratchpad, TA and E/S
+pub record Kept (before after : State) : Type 0 where
+  pub image : after .image ≡ before .image
+  pub code : after .tag .code ≡ before .tag .code
+  pub counters : after .tag .counters ≡ before .tag .counters
+  pub number : after .tag .exchange .number ≡ before .tag .exchange .number
+  pub held : after .tag .exchange .held ≡ before .tag .exchange .held
 
 -- ---- "tags reached from a new one by events"
 
@@ -96,3 +110,4 @@ abbrev pub OnSlots : (State → Bool → Type 0) → State → Event → Type 0
 OnSlots P s (Event.slot bit) = P s bit
 OnSlots P s Event.reset = Unit {0}
 OnSlots P s (Event.tick reading) = Unit {0}
+OnSlots P s Event.short = Unit {0}

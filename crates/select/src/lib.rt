@@ -2,7 +2,7 @@
 // It knows nothing of what a chosen tag does; once the tag is selected the memory commands are another crate's.
 // Every function answers any input, also a place past the last bit.
 ghost use mathlib.Core.Path.{_≡_};
-ghost use Rattle.select.specs.Select.{newSelect, resetSelect, slotOf, isSelected, asksAlarm, selectInRange, commandBit, romCommand, keeps, readBit, heardBit, following, sends};
+ghost use Rattle.select.specs.Select.{newSelect, resetSelect, restarted, slotOf, isSelected, asksAlarm, selectInRange, commandBit, romCommand, keeps, clears, whole, readBit, heardBit, following, sends};
 
 // Where the choosing of a tag stands.
 pub enum Choosing {
@@ -12,8 +12,8 @@ pub enum Choosing {
     Command(u8, u8),
     // Read: this bit of the number goes out next
     Reading(u8),
-    // Match: this bit of the number is to be heard next
-    Matching(u8),
+    // Match: whether it is the overdrive one, and the bit of the number that is to be heard next
+    Matching(bool, u8),
     // Search: this bit goes out next, then its complement, then the choice is heard
     Giving(u8),
     Complementing(u8),
@@ -22,10 +22,16 @@ pub enum Choosing {
     Selected,
 }
 
-// What choosing keeps from slot to slot, and `mark`, the Resume mark, from reset to reset.
+// What outlasts a ROM command: the Resume mark, and the speed, true at overdrive.
+pub struct Mode {
+    pub mark: bool,
+    pub speed: bool,
+}
+
+// What choosing keeps from slot to slot, and `mode` from reset to reset.
 pub struct Select {
     pub choosing: Choosing,
-    pub mark: bool,
+    pub mode: Mode,
 }
 
 // What one slot gives: how choosing goes on, and the line bit.
@@ -40,7 +46,10 @@ pub fn waiting() -> Select
 {
     Select {
         choosing: Choosing::Silent,
-        mark: false,
+        mode: Mode {
+            mark: false,
+            speed: false,
+        },
     }
 }
 
@@ -48,9 +57,24 @@ pub fn waiting() -> Select
 pub fn reset(select: Select) -> Select
     ensures { λ r. ⌜ r ≡ resetSelect select ⌝ }
 {
+    let mode = select.mode;
     Select {
         choosing: Choosing::Command(0, 0),
-        mark: select.mark,
+        mode: Mode {
+            mark: mode.mark,
+            speed: false,
+        },
+    }
+}
+
+// After a short reset at overdrive too, and the speed is kept beside the mark.
+pub fn restart(select: Select) -> Select
+    ensures { λ r. ⌜ r ≡ restarted select ⌝ }
+{
+    let mode = select.mode;
+    Select {
+        choosing: Choosing::Command(0, 0),
+        mode,
     }
 }
 
@@ -63,7 +87,7 @@ pub fn in_range(select: Select) -> bool
         Choosing::Silent => true,
         Choosing::Command(_, count) => count < 8,
         Choosing::Reading(at) => at < 64,
-        Choosing::Matching(at) => at < 64,
+        Choosing::Matching(_, at) => at < 64,
         Choosing::Giving(at) => at < 64,
         Choosing::Complementing(at) => at < 64,
         Choosing::Awaiting(at) => at < 64,
@@ -102,32 +126,32 @@ pub fn asks_alarm(select: Select, bit: bool) -> bool
 pub fn slot(select: Select, number: u64, bit: bool, alarm: bool) -> Chosen
     ensures { λ r. ⌜ r ≡ slotOf select number bit alarm ⌝ }
 {
-    let mark = select.mark;
+    let mode = select.mode;
     let choosing = select.choosing;
     match choosing {
-        Choosing::Silent => send(true, bit, keep(mark, Choosing::Silent)),
+        Choosing::Silent => send(true, bit, keep(mode, Choosing::Silent)),
         Choosing::Command(heard, count) => {
-            let next = command_bit(heard, count, mark, bit, alarm);
+            let next = command_bit(heard, count, mode, bit, alarm);
             send(true, bit, next)
         }
-        Choosing::Reading(at) => send(bits::bit(number, at), bit, read_bit(at, mark)),
-        Choosing::Matching(at) => {
-            let next = Choosing::Matching(following(at));
-            send(true, bit, hear_bit(number, at, bit, next, mark))
+        Choosing::Reading(at) => send(bits::bit(number, at), bit, read_bit(at, mode)),
+        Choosing::Matching(fast, at) => {
+            let next = Choosing::Matching(fast, following(at));
+            send(true, bit, hear_bit(number, at, bit, next, fast, mode))
         }
         Choosing::Giving(at) => {
-            let next = keep(mark, Choosing::Complementing(at));
+            let next = keep(mode, Choosing::Complementing(at));
             send(bits::bit(number, at), bit, next)
         }
         Choosing::Complementing(at) => {
-            let next = keep(mark, Choosing::Awaiting(at));
+            let next = keep(mode, Choosing::Awaiting(at));
             send(!bits::bit(number, at), bit, next)
         }
         Choosing::Awaiting(at) => {
             let next = Choosing::Giving(following(at));
-            send(true, bit, hear_bit(number, at, bit, next, mark))
+            send(true, bit, hear_bit(number, at, bit, next, false, mode))
         }
-        Choosing::Selected => send(true, bit, keep(mark, Choosing::Selected)),
+        Choosing::Selected => send(true, bit, keep(mode, Choosing::Selected)),
     }
 }
 
@@ -141,56 +165,68 @@ fn send(own: bool, bit: bool, select: Select) -> Chosen
     }
 }
 
-// How choosing goes on, with the Resume mark as given.
-fn keep(mark: bool, choosing: Choosing) -> Select
-    ensures { λ r. ⌜ r ≡ keeps mark choosing ⌝ }
+// How choosing goes on, with Resume mark and speed as given.
+fn keep(mode: Mode, choosing: Choosing) -> Select
+    ensures { λ r. ⌜ r ≡ keeps mode choosing ⌝ }
 {
-    Select { choosing, mark }
+    Select { choosing, mode }
 }
 
 // One more bit of the ROM command's byte.
-fn command_bit(heard: u8, count: u8, mark: bool, bit: bool, alarm: bool) -> Select
-    ensures { λ r. ⌜ r ≡ commandBit heard count mark bit alarm ⌝ }
+fn command_bit(heard: u8, count: u8, mode: Mode, bit: bool, alarm: bool) -> Select
+    ensures { λ r. ⌜ r ≡ commandBit heard count mode bit alarm ⌝ }
 {
     let byte = bits::shift_in8(heard, bit);
     if count < 7 {
-        keep(mark, Choosing::Command(byte, count + 1))
+        keep(mode, Choosing::Command(byte, count + 1))
     } else {
-        rom_command(byte, mark, alarm)
+        rom_command(byte, mode, alarm)
     }
 }
 
-// What follows a whole ROM command, and what it does to the Resume mark.
-fn rom_command(byte: u8, mark: bool, alarm: bool) -> Select
-    ensures { λ r. ⌜ r ≡ romCommand byte mark alarm ⌝ }
+// What follows a whole ROM command, and what it does to Resume mark and speed.
+fn rom_command(byte: u8, mode: Mode, alarm: bool) -> Select
+    ensures { λ r. ⌜ r ≡ romCommand byte mode alarm ⌝ }
 {
+    let speed = mode.speed;
     match byte {
         // Read
-        0x33 => keep(false, Choosing::Reading(0)),
+        0x33 => unmark(speed, Choosing::Reading(0)),
         // Match
-        0x55 => keep(false, Choosing::Matching(0)),
+        0x55 => unmark(speed, Choosing::Matching(false, 0)),
+        // Overdrive Match, which sets the speed once it is whole
+        0x69 => unmark(speed, Choosing::Matching(true, 0)),
         // Search
-        0xF0 => keep(false, Choosing::Giving(0)),
+        0xF0 => unmark(speed, Choosing::Giving(0)),
         // Conditional Search, which only a tag with an alarm joins
         0xEC => {
             if alarm {
-                keep(false, Choosing::Giving(0))
+                unmark(speed, Choosing::Giving(0))
             } else {
-                keep(false, Choosing::Silent)
+                unmark(speed, Choosing::Silent)
             }
         }
         // Skip
-        0xCC => keep(false, Choosing::Selected),
+        0xCC => unmark(speed, Choosing::Selected),
+        // Overdrive Skip
+        0x3C => unmark(true, Choosing::Selected),
         // Resume
         0xA5 => {
-            if mark {
-                keep(mark, Choosing::Selected)
+            if mode.mark {
+                keep(mode, Choosing::Selected)
             } else {
-                keep(mark, Choosing::Silent)
+                keep(mode, Choosing::Silent)
             }
         }
-        _ => keep(mark, Choosing::Silent),
+        _ => keep(mode, Choosing::Silent),
     }
+}
+
+// How choosing goes on with the Resume mark cleared, at this speed.
+fn unmark(speed: bool, choosing: Choosing) -> Select
+    ensures { λ r. ⌜ r ≡ clears speed choosing ⌝ }
+{
+    keep(Mode { mark: false, speed }, choosing)
 }
 
 // The bit after bit `at`. After the last there is none; nobody goes there.
@@ -201,28 +237,38 @@ fn following(at: u8) -> u8
 }
 
 // Read ROM, once bit `at` is out.
-fn read_bit(at: u8, mark: bool) -> Select
-    ensures { λ r. ⌜ r ≡ readBit at mark ⌝ }
+fn read_bit(at: u8, mode: Mode) -> Select
+    ensures { λ r. ⌜ r ≡ readBit at mode ⌝ }
 {
     if at < 63 {
-        keep(mark, Choosing::Reading(following(at)))
+        keep(mode, Choosing::Reading(following(at)))
     } else {
-        keep(mark, Choosing::Selected)
+        keep(mode, Choosing::Selected)
     }
 }
 
-// Match or Search, once bit `at` is heard: `next` while bits are left.
-fn hear_bit(number: u64, at: u8, bit: bool, next: Choosing, mark: bool) -> Select
-    ensures { λ r. ⌜ r ≡ heardBit number at bit next mark ⌝ }
+// Match or Search, once bit `at` is heard: `next` while bits are left. `fast` is an overdrive Match.
+fn hear_bit(number: u64, at: u8, bit: bool, next: Choosing, fast: bool, mode: Mode) -> Select
+    ensures { λ r. ⌜ r ≡ heardBit number at bit next fast mode ⌝ }
 {
     let own = bits::bit(number, at);
     if own == bit {
         if at < 63 {
-            keep(mark, next)
+            keep(mode, next)
         } else {
-            keep(true, Choosing::Selected)
+            keep(whole(fast, mode), Choosing::Selected)
         }
     } else {
-        keep(mark, Choosing::Silent)
+        keep(mode, Choosing::Silent)
+    }
+}
+
+// A whole Match or Search sets the mark, an overdrive Match the speed too.
+fn whole(fast: bool, mode: Mode) -> Mode
+    ensures { λ r. ⌜ r ≡ whole fast mode ⌝ }
+{
+    Mode {
+        mark: true,
+        speed: if fast { true } else { mode.speed },
     }
 }

@@ -1,4 +1,4 @@
--- The tag: a new tag, and one event (document 01, "Events and what they return"). Assumes nothing.
+-- The tag: a new tag, and one event (document 01, "Events and what they return"; request #103). Assumes nothing.
 use mathlib.Core.Bool.{true, false, not}
 use mathlib.Core.List.{List}
 use Prim.Native.Nat.{ℕ}
@@ -6,7 +6,7 @@ use lib.Dec.{eqb, ltb}
 use lib.ListN.{length, set, replicate}
 use Rattle.answer.specs.declared.Answer.{Answer}
 use Rattle.bits.specs.Choose.{if_then_else_}
-use Rattle.event.specs.Event.{slotted, resetTag, tickTag}
+use Rattle.event.specs.Event.{slotted, resetTag, shortTag, tickTag}
 use Rattle.record.specs.declared.Tag.{Tag}
 use Rattle.record.specs.Record.{Outcome, goodNumber, goodCode, tagInRange, freshTag, accepted, refusal}
 pub mod Laws
@@ -27,12 +27,13 @@ newTag image number code =
 
 -- ---- an event
 
--- an event by its code; "1 event code above 3", "2 tick with a reading above 2047"
+-- an event by its code; "Answer 1 now begins above 4", "2 tick with a reading above 2047"
 unfoldable pub eventOf : List ℕ → Tag → ℕ → ℕ → Outcome
 eventOf image tag code reading =
     if eqb code 0 then slotted image tag false
     else if eqb code 1 then slotted image tag true
     else if eqb code 2 then resetTag image tag
+    else if eqb code 4 then shortTag image tag
     else if not (eqb code 3) then refusal Answer.EventCode tag image
     else if ltb 2047 reading then refusal Answer.Reading tag image
     else tickTag image tag reading

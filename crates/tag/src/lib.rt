@@ -27,7 +27,7 @@ pub fn new(image: &mut [u8], number: u64, code: u8) -> Answered
 }
 
 // One event: 0 a slot with the line held low, 1 a slot with the line released, 2 a reset, 3 a tick of one second with its
-// reading. Refused with 3, 6, 1 or 2, in that order.
+// reading, 4 a short reset. Refused with 3, 6, 1 or 2, in that order.
 pub fn event(image: &mut [u8], tag: Tag, code: u8, reading: u16) -> Answered
     ensures { λ r. ⌜ r ≡ step (now (image .entry)) tag code reading .answered ⌝ }
     ensures { λ _. ⌜ now (image .exit) ≡ step (now (image .entry)) tag code reading .image ⌝ }
@@ -47,6 +47,7 @@ pub fn event(image: &mut [u8], tag: Tag, code: u8, reading: u16) -> Answered
             }
             event::tick(image, tag, reading)
         }
+        4 => event::short_reset(tag),
         _ => record::refuse(Answer::EventCode, tag),
     }
 }

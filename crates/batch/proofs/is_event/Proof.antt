@@ -1,4 +1,5 @@
 -- `batch::is_event` meets its contract. Assumes nothing.
+use borrow.Author.Needs.{needs}
 use borrow.Author.Tests.{le-leb, lt-leb}
 use Rattle.batch.specs.Batch.{isEvent}
 use Rattle.batch.proofs.is_event.Statement.{statement}
@@ -8,6 +9,6 @@ pub is-event-spec : {M : Type 1} → statement M
 unfolding isEvent
 is-event-spec =
     tie.close
-    (tie.spec (λ c. simp (le-leb _ _ (c .if1 .taken)))
-    (λ c. simp (lt-leb _ _ (c .before .if1 .left), le-leb _ _ (c .if2 .taken)))
-    (λ c. simp (lt-leb _ _ (c .before .if1 .left), lt-leb _ _ (c .if2 .left))))
+    (tie.spec (search needs) (λ c. simp (← c .before .is-code .ensures, c .if1 .taken))
+    (λ c. simp (← c .before .before .is-code .ensures, c .before .if1 .left, le-leb _ _ (c .if2 .taken)))
+    (λ c. simp (← c .before .before .is-code .ensures, c .before .if1 .left, lt-leb _ _ (c .if2 .left))))

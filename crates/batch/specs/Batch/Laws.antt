@@ -14,13 +14,13 @@ use lib.Seq.{sets, drop-cons}
 use Rattle.answer.specs.declared.Answer.{Answer}
 use Rattle.bits.specs.Bits.{digit}
 use Rattle.bits.specs.Choose.{if_then_else_}
-use Rattle.event.specs.Event.{slotted, resetTag, tickTag}
+use Rattle.event.specs.Event.{slotted, resetTag, shortTag, tickTag}
 use Rattle.record.specs.declared.Answered.{Answered}
 use Rattle.record.specs.declared.Tag.{Tag}
 use Rattle.record.specs.Record.{Outcome, tagInRange}
 use Rattle.tag.specs.Tag.{eventOf, step}
 use Rattle.tag.specs.Tag.Laws.{step-taken, step-in-range, event-tick}
-use Rattle.batch.specs.Batch.{isEvent, codeOf, readingOf, Course, courseOf, over, replying, Listed, returned, undone, replied, listed}
+use Rattle.batch.specs.Batch.{isCode, isEvent, codeOf, readingOf, Course, courseOf, over, replying, Listed, returned, undone, replied, listed}
 
 -- ---- a word
 
@@ -29,35 +29,45 @@ unfoldable pub eventIn : List ℕ → Tag → ℕ → Outcome
 eventIn image tag word =
     if ltb word 2 then slotted image tag (eqb word 1)
     else if eqb word 2 then resetTag image tag
+    else if eqb word 4 then shortTag image tag
     else tickTag image tag (word % 4096)
 
--- what holds of words 0 to 2 and of 4096 to 6143 holds of every event
-word-cases : (P : Type 0) (word : ℕ) → isEvent word ≡ true → (word ≤ 2 → P) → (4096 ≤ word → word ≤ 6143 → P) → P
-unfolding isEvent
-word-cases P word e slots ticks = by (leb word 2) (leb 4096 word) (leb word 6143) refl refl refl e
+-- what holds of words 0 to 2, of 4 and of 4096 to 6143 holds of every event
+word-cases : (P : ℕ → Type 0) (word : ℕ) → isEvent word ≡ true → P 0 → P 1 → P 2 → P 4 → (4096 ≤ word → word ≤ 6143 → P word) → P word
+unfolding isEvent isCode
+word-cases P word e held free reset short ticks = by (leb word 2) (eqb word 4) (leb 4096 word) (leb word 6143) refl refl refl refl e
   where
-    by : (small tick low : Bool) → leb word 2 ≡ small → leb 4096 word ≡ tick → leb word 6143 ≡ low → (small || (tick && low)) ≡ true → P
-    by true tick low p q r e = slots (leb-true word 2 p)
-    by false true true p q r e = ticks (leb-true 4096 word q) (leb-true word 6143 r)
-    by false true false p q r e = absurd (false≢true e)
-    by false false low p q r e = absurd (false≢true e)
+    small : (w : ℕ) → w ≤ 2 → P w
+    small zero h = held
+    small (suc zero) h = free
+    small (suc (suc zero)) h = reset
+    small (suc (suc (suc w))) h = absurd (omega arith)
+
+    by : (low four tick high : Bool) → leb word 2 ≡ low → eqb word 4 ≡ four → leb 4096 word ≡ tick → leb word 6143 ≡ high →
+        ((low || four) || (tick && high)) ≡ true → P word
+    by true four tick high p q r s e = small word (leb-true word 2 p)
+    by false true tick high p q r s e = rw (eqb-true word 4 q) short
+    by false false true true p q r s e = ticks (leb-true 4096 word r) (leb-true word 6143 s)
+    by false false true false p q r s e = absurd (false≢true e)
+    by false false false high p q r s e = absurd (false≢true e)
 
 pub word-happens : (image : List ℕ) (tag : Tag) (word : ℕ) → isEvent word ≡ true → length image ≡ 8832 → tagInRange tag ≡ true →
     step image tag (codeOf word) (readingOf word) ≡ eventIn image tag word
-unfolding codeOf readingOf eventIn eventOf
+unfolding codeOf readingOf isCode eventIn eventOf
 word-happens image tag word e whole inRange =
-    step-taken image tag (codeOf word) (readingOf word) whole inRange ∙ word-cases _ word e (small word) tick
+    step-taken image tag (codeOf word) (readingOf word) whole inRange ∙
+    word-cases (λ w. eventOf image tag (codeOf w) (readingOf w) ≡ eventIn image tag w) word e refl refl refl refl tick
   where
-    small : (w : ℕ) → w ≤ 2 → eventOf image tag (codeOf w) (readingOf w) ≡ eventIn image tag w
-    small zero h = refl
-    small (suc zero) h = refl
-    small (suc (suc zero)) h = refl
-    small (suc (suc (suc w))) h = absurd (omega arith)
-
     tick : 4096 ≤ word → word ≤ 6143 → eventOf image tag (codeOf word) (readingOf word) ≡ eventIn image tag word
     tick from to =
         let reading : word - 4096 ≡ word % 4096 = omega arith in
-        rw (lt-leb word 2 (omega arith), le-ltb word 2 (omega arith), ne-eqb word 2 (λ two. absurd (omega (arith, two))), ← reading)
+        rw (
+          lt-leb word 2 (omega arith),
+          le-ltb word 2 (omega arith),
+          ne-eqb word 2 (λ two. absurd (omega (arith, two))),
+          ne-eqb word 4 (λ four. absurd (omega (arith, four))),
+          ← reading,
+        )
         (event-tick image tag 3 (word - 4096) refl (omega arith))
 
 -- ---- the words from a place on

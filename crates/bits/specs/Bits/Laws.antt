@@ -49,11 +49,30 @@ digit-same a b e = sym (digit-one a) ∙ ap (λ (n : ℕ). eqb n 1) e ∙ digit-
 mod-pow-suc : (n w : ℕ) → n % 2 ^ suc w ≡ n % 2 + 2 * (n / 2 % 2 ^ w)
 mod-pow-suc n w = omega (arith, rw add-one at (mod-pow-add n w 1))
 
+-- the lowest bit is 1 exactly if the number is odd
+pub bit-low : (n : ℕ) → bitOf n 0 ≡ eqb (n % 2) 1
+unfolding bitOf
+bit-low n = rw (div-one n)
+
 -- w bits of a number, low first, are the number below 2 ^ w
 pub number-bits : (w n : ℕ) → numberOf (bitsOf w n) ≡ n % 2 ^ w
 unfolding numberOf bitsOf
 number-bits zero n = sym (mod-one n)
 number-bits (suc w) n = rw (digit-bit, number-bits w (n / 2), mod-pow-suc)
+
+-- and bits are those of the number that they are, which has no more of them
+pub bits-number : (bits : List Bool) → bitsOf (length bits) (numberOf bits) ≡ bits
+unfolding bitsOf numberOf
+bits-number [] = refl
+bits-number (b ∷ bs) =
+    let low : (digit b + 2 * numberOf bs) % 2 ≡ digit b = omega (arith, digit-le b) in
+    let high : (digit b + 2 * numberOf bs) / 2 ≡ numberOf bs = omega (arith, digit-le b) in
+    rw (bit-low (digit b + 2 * numberOf bs), low, high, digit-one b, bits-number bs)
+
+pub number-lt : (bits : List Bool) → numberOf bits < 2 ^ length bits
+unfolding numberOf
+number-lt [] = omega arith
+number-lt (b ∷ bs) = rw (pow-succ' 2 (length bs)) (omega (arith, digit-le b, number-lt bs))
 
 -- there are w of them, and the one at i is bit i
 pub length-bits : (w n : ℕ) → length (bitsOf w n) ≡ w
@@ -67,10 +86,9 @@ bits-at zero n i h = absurd (not-suc-le-zero h)
 bits-at (suc w) n zero h = refl
 bits-at (suc w) n (suc i) h = bits-at w (n / 2) i (le-of-suc-le-suc h) ∙ sym (bit-suc n i)
 
--- the lowest bit is 1 exactly if the number is odd
-pub bit-low : (n : ℕ) → bitOf n 0 ≡ eqb (n % 2) 1
-unfolding bitOf
-bit-low n = rw (div-one n)
+pub no-bits : (n : ℕ) → bitsOf 0 n ≡ []
+unfolding bitsOf
+no-bits n = refl
 
 -- a + b bits: a bits, and b bits of what is above them
 pub bits-add : (a b n : ℕ) → bitsOf (a + b) n ≡ bitsOf a n ++ bitsOf b (n / 2 ^ a)

@@ -7,6 +7,7 @@ use lib.ListN.{length}
 use Rattle.exchange.specs.declared.Exchange.{Exchange}
 use Rattle.exchange.specs.Exchange as exchange
 use Rattle.exchange.specs.Exchange.Laws as exchange-laws
+use Rattle.select.specs.Select.{standard}
 use Rattle.image.specs.Stored.{storedPage}
 use Rattle.image.specs.Stored.Laws.{length-storedRun}
 use Rattle.bus.specs.declared.Deed.{Deed}
@@ -17,7 +18,7 @@ use Rattle.mission.specs.Mission.Ranges.{range-ticked, range-started}
 use Rattle.record.specs.declared.Tag.{Tag}
 use Rattle.record.specs.Record.{tagInRange}
 use Rattle.record.specs.Record.Laws.{ranges-of, in-ranges}
-use Rattle.event.specs.Event.{answerTo, performed, performedCounters, slotted, resetTag, tickTag}
+use Rattle.event.specs.Event.{answerTo, performed, performedCounters, slotted, resetTag, shortTag, tickTag}
 
 -- ---- the image's length
 
@@ -74,7 +75,19 @@ reset-in-range image tag h =
       number = r .number;
       code = r .code;
       counters = r .counters;
-      line = exchange-laws.reset-in-range (tag .exchange) (r .line);
+      line = exchange-laws.begun-in-range (tag .exchange) (standard (tag .exchange .select .mode)) (r .line);
+    })
+
+pub short-in-range : (image : List ℕ) (tag : Tag) → tagInRange tag ≡ true → tagInRange (shortTag image tag .answered .tag) ≡ true
+unfolding shortTag
+short-in-range image tag h =
+    let r = ranges-of tag h in
+    in-ranges _
+    (record {
+      number = rw (exchange-laws.short-number (tag .exchange)) (r .number);
+      code = r .code;
+      counters = r .counters;
+      line = exchange-laws.short-in-range (tag .exchange) (r .line);
     })
 
 pub tick-in-range : (image : List ℕ) (tag : Tag) (reading : ℕ) → reading ≤ 2047 → tagInRange tag ≡ true →

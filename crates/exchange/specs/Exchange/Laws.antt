@@ -1,34 +1,51 @@
 -- What demand 3 of the order rests on: two tags whose exchanges are equal go on alike as long as no password field lets them
 -- pass, and do nothing but Forced Conversions. Assumes nothing.
-use mathlib.Core.Path.{_≡_, refl, ap}
-use mathlib.Core.Bool.{Bool, true, false, and-eq-true-iff}
+use mathlib.Core.Path.{_≡_, refl, sym, ap}
+use mathlib.Core.Bool.{Bool, true, false, _||_, and-eq-true-iff}
+use mathlib.Core.List.{List, _∷_}
 use Prim.Native.Nat.{ℕ}
 use lib.Dec.{eqb}
-use Rattle.bits.specs.Choose.{if_then_else_}
+use Rattle.bits.specs.Choose.{if_then_else_, either, choices}
 use Rattle.bus.specs.declared.Question.{Question}
 use Rattle.memory.specs.Memory as memory
 use Rattle.memory.specs.Phases.{opened, reading, writing, confirms, lets, letsWrite, unguarded}
 use Rattle.memory.specs.Phases.Deeds as deeds
 use Rattle.memory.specs.Phases.Laws as phases
+use Rattle.select.specs.declared.Mode.{Mode}
+use Rattle.select.specs.declared.Select.{Select}
 use Rattle.select.specs.Select as select
 use Rattle.select.specs.Select.Laws.{slots-agree}
 use Rattle.select.specs.Select.Ranges as select-ranges
+use Rattle.select.specs.Select.Speed as speeds
 use Rattle.memory.specs.Range.{memoryInRange}
 use Rattle.memory.specs.Range.Laws as memory-ranges
 use Rattle.exchange.specs.declared.Exchange.{Exchange}
 use Rattle.exchange.specs.declared.Slotted.{Slotted}
-use Rattle.exchange.specs.Exchange.{newExchange, afterReset, asks, slotOf, commanded, choosing, exchangeInRange}
+use Rattle.exchange.specs.Exchange.{newExchange, begun, afterReset, afterShort, asks, slotOf, commanded, choosing, exchangeInRange}
 
--- ---- a reset
+-- ---- resets
 
 -- what a reset leaves is fixed by number, Resume mark, scratchpad, TA and E/S
-pub reset-agree : (x y : Exchange) → x .number ≡ y .number → x .select .mark ≡ y .select .mark → x .held ≡ y .held → afterReset x ≡ afterReset y
+pub reset-agree : (x y : Exchange) → x .number ≡ y .number → x .select .mode .mark ≡ y .select .mode .mark → x .held ≡ y .held → afterReset x ≡ afterReset y
 reset-agree x y n m h = cc
 
 -- after it no password has led anywhere
-pub reset-shut : (x : Exchange) → opened (afterReset x .bus .stage) ≡ false
+pub begun-shut : (x : Exchange) (next : Select) → opened (begun x next .bus .stage) ≡ false
 unfolding reading writing confirms
-reset-shut x = refl
+begun-shut x next = refl
+
+-- what holds of a reset and of nothing at all holds of a short reset, each at its speed
+pub short-cases : (P : Exchange → Type 0) (x : Exchange) →
+    (x .select .mode .speed ≡ true → P (begun x (select.restarted (x .select)))) → (x .select .mode .speed ≡ false → P x) → P (afterShort x)
+unfolding afterShort
+short-cases P x fast slow = either P (x .select .mode .speed) fast slow
+
+-- like a reset it leaves number, scratchpad, TA and E/S
+pub short-number : (x : Exchange) → afterShort x .number ≡ x .number
+short-number x = short-cases (λ y. y .number ≡ x .number) x (λ fast. refl) (λ slow. refl)
+
+pub short-held : (x : Exchange) → afterShort x .held ≡ x .held
+short-held x = short-cases (λ y. y .held ≡ x .held) x (λ fast. refl) (λ slow. refl)
 
 -- ---- a slot
 
@@ -96,12 +113,63 @@ parts x h = and-eq-true-iff (select.selectInRange (x .select)) (memoryInRange (x
 pub new-in-range : (number : ℕ) → exchangeInRange (newExchange number) ≡ true
 new-in-range number = join (newExchange number) select-ranges.new-in-range memory-ranges.new-in-range
 
-pub reset-in-range : (x : Exchange) → exchangeInRange x ≡ true → exchangeInRange (afterReset x) ≡ true
-reset-in-range x h =
-    join (afterReset x) (select-ranges.reset-in-range (x .select)) (memory-ranges.clear-in-range (x .held) (x .bus) (parts x h .1))
+pub begun-in-range : (x : Exchange) (mode : Mode) → exchangeInRange x ≡ true → exchangeInRange (begun x (select.listening mode)) ≡ true
+begun-in-range x mode h =
+    join (begun x (select.listening mode)) (select-ranges.listening-in-range mode) (memory-ranges.clear-in-range (x .held) (x .bus) (parts x h .1))
+
+pub short-in-range : (x : Exchange) → exchangeInRange x ≡ true → exchangeInRange (afterShort x) ≡ true
+short-in-range x h = short-cases (λ y. exchangeInRange y ≡ true) x (λ fast. begun-in-range x (x .select .mode) h) (λ slow. h)
 
 pub slot-in-range : (x : Exchange) (bit : Bool) (answer : ℕ) → exchangeInRange x ≡ true → exchangeInRange (slotOf x bit answer .exchange) ≡ true
 slot-in-range x bit answer h =
     slot-cases (λ q s. exchangeInRange (s answer .exchange) ≡ true) x bit
     (join (commanded x (memory.slotOf (x .held) (x .bus) bit answer) .exchange) (parts x h .0) (memory-ranges.slot-in-range (x .held) (x .bus) bit answer (parts x h .1)))
     (join (choosing x (select.slotOf (x .select) (x .number) bit (eqb answer 1)) .exchange) (select-ranges.slot-in-range (x .select) (x .number) bit (eqb answer 1) (parts x h .0)) (parts x h .1))
+
+-- ---- the speed
+
+-- the exchange at another speed
+abbrev pub atSpeed : Bool → Exchange → Exchange
+atSpeed speed x =
+    record { number = x .number; select = select.keeps (speeds.atSpeed speed (x .select .mode)) (x .select .choosing); held = x .held; bus = x .bus }
+
+-- two slots that give the same bit and do the same, and whose exchanges differ at most in the speed
+abbrev pub SameSlot : Slotted → Slotted → Type 0
+SameSlot a b =
+    (a .line ≡ b .line) × (a .deed ≡ b .deed) × (b .exchange ≡ atSpeed (b .exchange .select .mode .speed) (a .exchange))
+
+pub slot-same : (x : Exchange) (speed bit : Bool) (answer : ℕ) → SameSlot (slotOf x bit answer) (slotOf (atSpeed speed x) bit answer)
+unfolding slotOf
+slot-same x speed bit answer =
+    let same = speeds.slot-same (x .select) speed (x .number) bit (eqb answer 1) in
+    choices SameSlot (select.isSelected (x .select)) (refl, refl, refl) (
+      same .0,
+      refl,
+      λ i. record {
+        number = x .number;
+        select = record {
+          choosing = sym (same .1 .0) i;
+          mode = record {
+            mark = sym (same .1 .1) i;
+            speed = select.slotOf (select.keeps (speeds.atSpeed speed (x .select .mode)) (x .select .choosing)) (x .number) bit (eqb answer 1) .select .mode .speed;
+          };
+        };
+        held = x .held;
+        bus = x .bus;
+      },
+    )
+
+-- what the slots to come set, a slot has set or leaves to those after it
+pub slot-leads : (x : Exchange) (bit : Bool) (answer : ℕ) (bits : List Bool) → exchangeInRange x ≡ true →
+    let next = slotOf x bit answer .exchange .select in
+    (speeds.leads (x .select .choosing) (x .number) (bit ∷ bits) || x .select .mode .speed) ≡
+    (speeds.leads (next .choosing) (x .number) bits || next .mode .speed)
+unfolding slotOf
+slot-leads x bit answer bits h =
+    let k = x .select .choosing in
+    either
+    (λ (s : Slotted). (speeds.leads k (x .number) (bit ∷ bits) || x .select .mode .speed) ≡
+    (speeds.leads (s .exchange .select .choosing) (x .number) bits || s .exchange .select .mode .speed))
+    (select.isSelected (x .select))
+    (λ chosen. rw (speeds.leads-chosen k (x .number) (bit ∷ bits) chosen, speeds.leads-chosen k (x .number) bits chosen))
+    (λ _. speeds.slot-leads (x .select) (x .number) bit (eqb answer 1) bits (parts x h .0))

@@ -10,6 +10,7 @@ use Rattle.bus.specs.declared.Held.{Held}
 use Rattle.bus.specs.declared.Question.{Question}
 use Rattle.memory.specs.Memory as memory
 use Rattle.memory.specs.Runs as memory-runs
+use Rattle.select.specs.declared.Mode.{Mode}
 use Rattle.select.specs.declared.Select.{Select}
 use Rattle.select.specs.Select as select
 use Rattle.select.specs.Select.Laws.{slots-agree}
@@ -81,20 +82,20 @@ run-choosing answers x (bit ∷ bits) h =
 -- ---- a chosen tag
 
 -- what memory's run comes to for the tag
-abbrev pub ran : ℕ → Bool → memory-runs.Ran → Ran
-ran number mark m = record { exchange = commanding number mark (m .held) (m .bus); line = m .line; deeds = m .deeds }
+abbrev pub ran : ℕ → Mode → memory-runs.Ran → Ran
+ran number mode m = record { exchange = commanding number mode (m .held) (m .bus); line = m .line; deeds = m .deeds }
 
 -- its slots are its memory command's
-pub run-commanded : (answers : Question → ℕ) (number : ℕ) (mark : Bool) (held : Held) (bus : Bus) (bits : List Bool) →
-    run answers (commanding number mark held bus) bits ≡ ran number mark (memory-runs.run answers held bus bits)
+pub run-commanded : (answers : Question → ℕ) (number : ℕ) (mode : Mode) (held : Held) (bus : Bus) (bits : List Bool) →
+    run answers (commanding number mode held bus) bits ≡ ran number mode (memory-runs.run answers held bus bits)
 unfolding run memory-runs.run slotOf asks select.isChosen
-run-commanded answers number mark held bus [] = refl
-run-commanded answers number mark held bus (bit ∷ bits) =
+run-commanded answers number mode held bus [] = refl
+run-commanded answers number mode held bus (bit ∷ bits) =
     let moved = memory.slotOf held bus bit (answers (memory.asks bus bit)) in
-    ap (follows (one (commanded (commanding number mark held bus) moved))) (run-commanded answers number mark (moved .held) (moved .bus) bits)
+    ap (follows (one (commanded (commanding number mode held bus) moved))) (run-commanded answers number mode (moved .held) (moved .bus) bits)
 
 -- a memory command that does nothing
-pub run-quiet : (answers : Question → ℕ) (number : ℕ) (mark : Bool) (held : Held) (bus : Bus) (bits : List Bool) {held′ : Held} {bus′ : Bus} {line : List Bool} →
+pub run-quiet : (answers : Question → ℕ) (number : ℕ) (mode : Mode) (held : Held) (bus : Bus) (bits : List Bool) {held′ : Held} {bus′ : Bus} {line : List Bool} →
     memory-runs.run answers held bus bits ≡ memory-runs.quietly held′ bus′ line →
-    run answers (commanding number mark held bus) bits ≡ quietly (commanding number mark held′ bus′) line
-run-quiet answers number mark held bus bits e = run-commanded answers number mark held bus bits ∙ ap (ran number mark) e
+    run answers (commanding number mode held bus) bits ≡ quietly (commanding number mode held′ bus′) line
+run-quiet answers number mode held bus bits e = run-commanded answers number mode held bus bits ∙ ap (ran number mode) e

@@ -31,40 +31,64 @@ use Rattle.promises.specs.Runs.Laws.{line-length, Sound, Valid, sound-ac
 
 -- the words that are refused are those that are no event
 refused-is : (word : ℕ) → isRefused word ≡ not (isEvent word)
-unfolding isRefused isEvent
-refused-is word = by (decLe word 2) (decLe word 4095) (decLe word 6143)
+unfolding isRefused isEvent batch.isCode
+refused-is zero = refl
+refused-is (suc zero) = refl
+refused-is (suc (suc zero)) = refl
+refused-is (suc (suc (suc zero))) = refl
+refused-is (suc (suc (suc (suc zero)))) = refl
+refused-is (suc (suc (suc (suc (suc word))))) = by (decLe w 4095) (decLe w 6143)
   where
-    by : Dec (word ≤ 2) → Dec (word ≤ 4095) → Dec (word ≤ 6143) → isRefused word ≡ not (isEvent word)
-    by (yes a) b c = rw (le-ltb 6143 word (omega arith), lt-leb 3 word (omega arith), le-leb word 2 a)
-    by (no a) (yes b) c =
-        rw (le-ltb 6143 word (omega arith), le-leb 3 word (omega arith), le-leb word 4095 b, lt-leb word 2 (omega arith), lt-leb 4096 word (omega arith))
-    by (no a) (no b) (yes c) =
-        rw (le-ltb 6143 word c, le-leb 3 word (omega arith), lt-leb word 4095 (omega arith), lt-leb word 2 (omega arith), le-leb 4096 word (omega arith), le-leb word 6143 c)
-    by (no a) (no b) (no c) =
-        rw (lt-ltb 6143 word (omega arith), lt-leb word 2 (omega arith), le-leb 4096 word (omega arith), lt-leb word 6143 (omega arith))
+    w : ℕ
+    w = suc (suc (suc (suc (suc word))))
+
+    no-code : batch.isCode w ≡ false
+    no-code = rw (lt-leb w 2 (omega arith), ne-eqb w 4 (λ e. absurd (omega (arith, e))))
+
+    by : Dec (w ≤ 4095) → Dec (w ≤ 6143) → isRefused w ≡ not (isEvent w)
+    by (yes a) b =
+        rw (le-ltb 6143 w (omega arith), ne-eqb w 3 (λ e. absurd (omega (arith, e))), le-leb 5 w (omega arith), le-leb w 4095 a, no-code, lt-leb 4096 w (omega arith))
+    by (no a) (yes b) =
+        rw (le-ltb 6143 w b, ne-eqb w 3 (λ e. absurd (omega (arith, e))), lt-leb w 4095 (omega arith), le-leb 5 w (omega arith), no-code, le-leb 4096 w (omega arith), le-leb w 6143 b)
+    by (no a) (no b) =
+        rw (lt-ltb 6143 w (omega arith), no-code, le-leb 4096 w (omega arith), lt-leb w 6143 (omega arith))
 
 -- the others are ticks
-tick-word : (word : ℕ) → 2 < word → eventOf word ≡ Event.tick (word - 4096)
+tick-word : (word : ℕ) → 4 < word → eventOf word ≡ Event.tick (word - 4096)
 unfolding eventOf
 tick-word word h =
-    rw (ne-eqb word 0 (λ e. absurd (omega (arith, e))), ne-eqb word 1 (λ e. absurd (omega (arith, e))), ne-eqb word 2 (λ e. absurd (omega (arith, e))))
+    rw (
+      ne-eqb word 0 (λ e. absurd (omega (arith, e))),
+      ne-eqb word 1 (λ e. absurd (omega (arith, e))),
+      ne-eqb word 2 (λ e. absurd (omega (arith, e))),
+      ne-eqb word 4 (λ e. absurd (omega (arith, e))),
+    )
+
+-- and are their events
+tick-happens : (s : State) (word : ℕ) → 4 < word → step (s .image) (s .tag) (batch.codeOf word) (batch.readingOf word) ≡ happens s (eventOf word)
+unfolding batch.codeOf batch.readingOf batch.isCode
+tick-happens s word h = rw (lt-leb word 2 (omega arith), ne-eqb word 4 (λ e. absurd (omega (arith, e))), tick-word word h)
 
 -- a word is its event
 word-happens : (s : State) (word : ℕ) → step (s .image) (s .tag) (batch.codeOf word) (batch.readingOf word) ≡ happens s (eventOf word)
-unfolding batch.codeOf batch.readingOf eventOf
+unfolding batch.codeOf batch.readingOf batch.isCode eventOf
 word-happens s zero = refl
 word-happens s (suc zero) = refl
 word-happens s (suc (suc zero)) = refl
-word-happens s (suc (suc (suc word))) = rw (lt-leb (suc (suc (suc word))) 2 (omega arith), tick-word (suc (suc (suc word))) (omega arith))
+word-happens s (suc (suc (suc zero))) = refl
+word-happens s (suc (suc (suc (suc zero)))) = refl
+word-happens s (suc (suc (suc (suc (suc word))))) = tick-happens s (suc (suc (suc (suc (suc word))))) (omega arith)
 
--- one that is not refused is a slot, a reset or a tick with a valid reading
+-- one that is not refused is a slot, a reset of either kind, or a tick with a valid reading
 word-valid : (word : ℕ) → isRefused word ≡ false → Valid (eventOf word)
 unfolding eventOf isRefused
 word-valid zero e = tt
 word-valid (suc zero) e = tt
 word-valid (suc (suc zero)) e = tt
-word-valid (suc (suc (suc word))) e =
-    let w = suc (suc (suc word)) in
+word-valid (suc (suc (suc zero))) e = absurd (true≢false e)
+word-valid (suc (suc (suc (suc zero)))) e = tt
+word-valid (suc (suc (suc (suc (suc word))))) e =
+    let w = suc (suc (suc (suc (suc word)))) in
     rw (tick-word w (omega arith))
     (dite (decLe w 6143) (λ h. omega (arith, h)) (λ h. absurd (true≢false (rw (lt-ltb 6143 w (omega (arith, h))) at e))))
 

@@ -31,7 +31,7 @@ use Rattle.promises.specs.Demand3.{JustReset}
 use Rattle.promises.specs.Demand3.Proof.{demand3}
 use Rattle.promises.specs.History
 use Rattle.promises.specs.Runs.{State, Event, leaves, happens, after, lineBit, Ran, run, Reached}
-use Rattle.promises.specs.Runs.Laws.{Sound, reached-sound, slot-happens, reset-happens, tick-happens, line-length, run-append, reached-after, reached-run}
+use Rattle.promises.specs.Runs.Laws.{Sound, reached-sound, slot-happens, reset-happens, short-happens, tick-happens, line-length, run-append, reached-after, reached-run}
 
 -- ---- one call, by what it is taken for
 
@@ -44,26 +44,28 @@ step-gives : {s : State} → Sound s → (code reading : ℕ) → Gives s (step 
 unfolding Gives meaningOf eventOf
 step-gives {s} sound code reading =
     rw (step-taken (s .image) (s .tag) code reading (sound .size) (sound .ranges))
-    (by (eqb code 0) (eqb code 1) (eqb code 2) (eqb code 3) (leb reading 2047) refl refl refl refl refl)
+    (by (eqb code 0) (eqb code 1) (eqb code 2) (eqb code 4) (eqb code 3) (leb reading 2047) refl refl refl refl refl refl)
   where
-    by : (zero one two three small : Bool) →
-        eqb code 0 ≡ zero → eqb code 1 ≡ one → eqb code 2 ≡ two → eqb code 3 ≡ three → leb reading 2047 ≡ small →
+    by : (zero one two four three small : Bool) →
+        eqb code 0 ≡ zero → eqb code 1 ≡ one → eqb code 2 ≡ two → eqb code 4 ≡ four → eqb code 3 ≡ three → leb reading 2047 ≡ small →
         Gives s (eventOf (s .image) (s .tag) code reading)
         (if zero then Meaning.taken (Event.slot false)
         else if one then Meaning.taken (Event.slot true)
         else if two then Meaning.taken Event.reset
+        else if four then Meaning.taken Event.short
         else if three && small then Meaning.taken (Event.tick reading)
         else Meaning.refused)
-    by true one two three small p q r t h = rw (eqb-true code 0 p) (sym (slot-happens sound false))
-    by false true two three small p q r t h = rw (eqb-true code 1 q) (sym (slot-happens sound true))
-    by false false true three small p q r t h = rw (eqb-true code 2 r) (sym (reset-happens sound))
-    by false false false true true p q r t h =
+    by true one two four three small p q r f t h = rw (eqb-true code 0 p) (sym (slot-happens sound false))
+    by false true two four three small p q r f t h = rw (eqb-true code 1 q) (sym (slot-happens sound true))
+    by false false true four three small p q r f t h = rw (eqb-true code 2 r) (sym (reset-happens sound))
+    by false false false true three small p q r f t h = rw (eqb-true code 4 f) (sym (short-happens sound))
+    by false false false false true true p q r f t h =
         let low = leb-true reading 2047 h in
         event-tick (s .image) (s .tag) code reading (eqb-true code 3 t) low ∙ sym (tick-happens sound reading low)
-    by false false false true false p q r t h =
+    by false false false false true false p q r f t h =
         rw (event-reading (s .image) (s .tag) code reading (eqb-true code 3 t) (leb-false reading 2047 h)) (refl, refl)
-    by false false false false small p q r t h =
-        rw (event-other (s .image) (s .tag) code reading (omega (arith, eqb-false code 0 p, eqb-false code 1 q)) (eqb-false code 2 r) (eqb-false code 3 t))
+    by false false false false false small p q r f t h =
+        rw (event-other (s .image) (s .tag) code reading (omega (arith, eqb-false code 0 p, eqb-false code 1 q)) (eqb-false code 2 r) (eqb-false code 3 t) (eqb-false code 4 f))
         (refl, refl)
 
 -- what a call that met its contract saw and left is the definition's

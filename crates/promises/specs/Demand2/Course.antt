@@ -1,6 +1,6 @@
 -- A mission from its Start on, over any events that spare its registers: what its image holds at the end is its history.
 -- Assumes nothing.
-use mathlib.Core.Path.{_≡_, refl, sym, _∙_}
+use mathlib.Core.Path.{_≡_, refl, sym, subst, _∙_}
 use mathlib.Core.Bool.{Bool, true, false, _&&_, false≢true}
 use mathlib.Core.List.{List, [], _∷_, _++_, append-nil}
 use mathlib.Core.Logic.{_⊎_, dite}
@@ -17,8 +17,8 @@ use Rattle.bits.specs.Bits.Laws.{bit-past}
 use Rattle.bits.specs.Bytes.{bytes-set, byte-blank, bytes-blank}
 use Rattle.bits.specs.Choose.{if_then_else_, either, choice}
 use Rattle.calendar.specs.Calendar.{clockAfter}
-use Rattle.exchange.specs.Exchange as exchange
-use Rattle.exchange.specs.Exchange.Pad.{PaddedIn, exchange-padded, reset-padded, new-padded}
+use Rattle.exchange.specs.Exchange.Pad.{PaddedIn, exchange-padded, begun-padded, new-padded}
+use Rattle.exchange.specs.Exchange.Pad as pad
 use Rattle.image.specs.Fields.{flagAt}
 use Rattle.image.specs.Leaves.{word-left}
 use Rattle.image.specs.Registers
@@ -35,7 +35,8 @@ use Rattle.mission.specs.Mission.Times.{on-time-started}
 use Rattle.conversion.specs.Conversion.Whole.{Whole}
 use Rattle.mission.specs.Mission.Whole.{whole-ticked, whole-cleared, whole-started, whole-stopped, whole-forced}
 use Rattle.mission.specs.declared.Counters.{Counters}
-use Rattle.event.specs.Event.{performed, performedCounters, slotted, resetTag, tickTag}
+use Rattle.select.specs.Select.{resetSelect}
+use Rattle.event.specs.Event.{performed, performedCounters, slotted, resetTag, shortTag, tickTag}
 use Rattle.tag.specs.Tag.{newImage}
 use Rattle.tag.specs.Tag.Laws.{new-good, new-made, length-new}
 use Rattle.promises.specs.Demand2.Deeds.{whole-stored, holds-performed, Stopped, stopped-stop, stopped-ticked, stopped-performed}
@@ -45,8 +46,8 @@ use Rattle.promises.specs.Demand2.AtStart.{settingsOf, rate-of, settings
 use Rattle.promises.specs.Demand2.Ticks.{holds-ticked}
 use Rattle.promises.specs.History
 use Rattle.promises.specs.History.{Settings, Conversion}
-use Rattle.promises.specs.Runs.{State, Event, after, run, Reached, Always}
-use Rattle.promises.specs.Runs.Laws.{Sound, sound-after, reached-sound, slot-happens, reset-happens, tick-happens, tick-passed}
+use Rattle.promises.specs.Runs.{State, Event, after, run, Kept, Reached, Always}
+use Rattle.promises.specs.Runs.Laws.{Sound, sound-after, reached-sound, slot-happens, reset-happens, short-happens, reset-keeps, short-keeps, tick-happens, tick-passed}
 
 -- ---- what every reached state has
 
@@ -67,14 +68,6 @@ unfolding after tickTag
 tick-leaves sound reading small = rw (tick-happens sound reading small)
 
 module _ {s : State} (solid : Solid s) where
-  pub reset-leaves : after s Event.reset
-      ≡ record {
-        image = s .image;
-        tag = record { code = s .tag .code; counters = s .tag .counters; exchange = exchange.afterReset (s .tag .exchange) };
-      }
-  unfolding after resetTag
-  reset-leaves = rw (reset-happens (solid .sound))
-
   pub slot-leaves : (bit : Bool) → after s (Event.slot bit)
       ≡ record {
         image = performed (slotAt s bit .deed) (slotAt s bit .exchange) (s .tag .counters) (s .image);
@@ -107,6 +100,25 @@ pub slot-padded : {s : State} → Solid s → (bit : Bool) → PaddedIn (slotAt 
 unfolding slotAt
 slot-padded {s} solid bit = exchange-padded (s .tag .exchange) bit _ (solid .padded)
 
+-- a reset of either kind
+solid-kept : {s u : State} → Solid s → Sound u → Kept s u → PaddedIn (u .tag .exchange) → Solid u
+solid-kept solid sound kept padded =
+    record {
+      sound = sound;
+      whole = subst Whole (sym (kept .image)) (solid .whole);
+      padded = padded;
+      fresh = subst Fresh (sym (kept .image)) (solid .fresh);
+    }
+
+reset-padded : {s : State} → Solid s → PaddedIn (after s Event.reset .tag .exchange)
+unfolding after resetTag
+reset-padded {s} solid =
+    rw (reset-happens (solid .sound)) (begun-padded (s .tag .exchange) (resetSelect (s .tag .exchange .select)) (solid .padded))
+
+short-padded : {s : State} → Solid s → PaddedIn (after s Event.short .tag .exchange)
+unfolding after shortTag
+short-padded {s} solid = rw (short-happens (solid .sound)) (pad.short-padded (s .tag .exchange) (solid .padded))
+
 pub solid-after : {s : State} → Solid s → (e : Event) → Solid (after s e)
 solid-after {s} solid (Event.slot bit) =
     let both = performed-whole (slotAt s bit .deed) solid bit in
@@ -116,13 +128,10 @@ solid-after {s} solid (Event.slot bit) =
       padded = rw (slot-leaves solid bit) (slot-padded solid bit);
       fresh = rw (slot-leaves solid bit) (both .1);
     }
-solid-after {s} solid Event.reset =
-    record {
-      sound = sound-after Event.reset (solid .sound);
-      whole = rw (reset-leaves solid) (solid .whole);
-      padded = rw (reset-leaves solid) (reset-padded (s .tag .exchange) (solid .padded));
-      fresh = rw (reset-leaves solid) (solid .fresh);
-    }
+solid-after solid Event.reset =
+    solid-kept solid (sound-after Event.reset (solid .sound)) (reset-keeps (solid .sound)) (reset-padded solid)
+solid-after solid Event.short =
+    solid-kept solid (sound-after Event.short (solid .sound)) (short-keeps (solid .sound)) (short-padded solid)
 solid-after {s} solid (Event.tick reading) =
     dite (decLt 2047 reading) (λ high. rw (tick-passed (solid .sound) reading high) solid)
     (λ low.
@@ -205,6 +214,7 @@ starts-after {s} (Event.slot bit) solid starts =
       etl = rw (slot-leaves solid bit, starts .command) (etl-started (s .image) (four-facts (starts .may)));
     }
 starts-after Event.reset solid starts = let command = starts .command in absurd (let no : _≡_ {A = ℕ} 0 1 = cc in omega arith)
+starts-after Event.short solid starts = let command = starts .command in absurd (let no : _≡_ {A = ℕ} 0 1 = cc in omega arith)
 starts-after (Event.tick reading) solid starts = let command = starts .command in absurd (let no : _≡_ {A = ℕ} 0 1 = cc in omega arith)
 
 -- ---- the events after it
@@ -224,7 +234,8 @@ stopped-after : {start : List ℕ} {es : List Conversion} {s : State} → Solid 
 stopped-after {s = s} solid (Event.slot bit) spares h =
     rw (slot-leaves solid bit)
     (stopped-performed (s .tag .counters) (slotAt s bit .exchange) (slot-padded solid bit) (slotAt s bit .deed) (slot-stores solid bit spares) (slot-clears bit spares) h)
-stopped-after solid Event.reset spares h = rw (reset-leaves solid) h
+stopped-after {start} {es} solid Event.reset spares h = subst (Stopped start es) (sym (reset-keeps (solid .sound) .image)) h
+stopped-after {start} {es} solid Event.short spares h = subst (Stopped start es) (sym (short-keeps (solid .sound) .image)) h
 stopped-after {s = s} solid (Event.tick reading) spares h =
     dite (decLt 2047 reading) (λ high. rw (tick-passed (solid .sound) reading high) h)
     (λ low. rw (tick-leaves (solid .sound) reading (omega arith)) (stopped-ticked (s .tag .counters) reading h))
@@ -258,6 +269,11 @@ unfolding run
 solid-run [] solid = solid
 solid-run (e ∷ events) solid = solid-run events (solid-after solid e)
 
+-- a reset of either kind leaves what an image holds
+pub holds-kept : {start readings : List ℕ} {s u : State} → Kept s u → Holds start readings (s .image) (s .tag .counters)
+    → Holds start readings (u .image) (u .tag .counters)
+holds-kept kept h = rw (kept .image, kept .counters) h
+
 -- over any events that spare the mission, its image holds the history of its ticks
 pub listed-run : {start readings : List ℕ} {s : State} (events : List Event) → Solid s → Holds start readings (s .image) (s .tag .counters)
     → Always Spares s events
@@ -275,7 +291,9 @@ listed-run {start} {readings} {s} (Event.tick reading ∷ events) solid h always
     (listed-run {readings = readings ++ reading ∷ []} events next (rw (tick-leaves (solid .sound) reading small) (holds-ticked h reading small)) (always .1)))
     (λ high. listed-run {readings = readings} events next (rw (tick-passed (solid .sound) reading (leb-false reading 2047 high)) h) (always .1))
 listed-run {readings = readings} (Event.reset ∷ events) solid h always =
-    listed-run {readings = readings} events (solid-after solid Event.reset) (rw (reset-leaves solid) h) (always .1)
+    listed-run {readings = readings} events (solid-after solid Event.reset) (holds-kept (reset-keeps (solid .sound)) h) (always .1)
+listed-run {readings = readings} (Event.short ∷ events) solid h always =
+    listed-run {readings = readings} events (solid-after solid Event.short) (holds-kept (short-keeps (solid .sound)) h) (always .1)
 listed-run {start} {readings} {s} (Event.slot bit ∷ events) solid h always =
     by-deed (isStop (slotAt s bit .deed)) refl
     (λ going. listed-run {readings = readings} events (solid-after solid (Event.slot bit))

@@ -18,12 +18,13 @@ unfoldable pub slotAt : State → Bool → Slotted
 slotAt s bit =
     exchange.slotOf (s .tag .exchange) bit (answerTo (s .image) (s .tag .code) (exchange.asks (s .tag .exchange) bit))
 
--- what it does: Store, Clear, Start, Stop and Convert come at the last bit of a command, its password right; a reset and a tick
--- do none of these
+-- what it does: Store, Clear, Start, Stop and Convert come at the last bit of a command, its password right; resets and ticks do
+-- none of these
 unfoldable pub deedAt : State → Event → Deed
 deedAt s (Event.slot bit) = slotAt s bit .deed
 deedAt s Event.reset = Deed.Nothing
 deedAt s (Event.tick reading) = Deed.Nothing
+deedAt s Event.short = Deed.Nothing
 
 -- ---- Start
 
@@ -62,5 +63,6 @@ missionTicks s (Event.tick reading ∷ es) =
     let rest = missionTicks (after s (Event.tick reading)) es in
     if leb reading 2047 then reading ∷ rest else rest
 missionTicks s (Event.reset ∷ es) = missionTicks (after s Event.reset) es
+missionTicks s (Event.short ∷ es) = missionTicks (after s Event.short) es
 missionTicks s (Event.slot bit ∷ es) =
     if isStop (deedAt s (Event.slot bit)) then [] else missionTicks (after s (Event.slot bit)) es

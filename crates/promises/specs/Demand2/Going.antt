@@ -8,13 +8,13 @@ use borrow.Author.Tests.{leb-true, leb-false}
 use lib.Dec.{leb}
 use lib.Seq.{append-snoc}
 use Rattle.bits.specs.Choose.{either}
-use Rattle.promises.specs.Demand2.Course.{Solid, solid-after, tick-leaves, reset-leaves, slot-leaves, slot-padded, slot-stores}
+use Rattle.promises.specs.Demand2.Course.{Solid, solid-after, tick-leaves, slot-leaves, slot-padded, slot-stores, holds-kept}
 use Rattle.promises.specs.Demand2.Deeds.{holds-performed}
 use Rattle.promises.specs.Demand2.Events.{slotAt, deedAt, Spares, isStop, missionTicks}
 use Rattle.promises.specs.Demand2.Holds.{Holds}
 use Rattle.promises.specs.Demand2.Ticks.{holds-ticked}
 use Rattle.promises.specs.Runs.{State, Event, after, run, Always}
-use Rattle.promises.specs.Runs.Laws.{tick-passed}
+use Rattle.promises.specs.Runs.Laws.{reset-keeps, short-keeps, tick-passed}
 
 -- the event spares the mission's registers, and is no Stop
 pub record Going (s : State) (e : Event) : Type 0 where
@@ -37,7 +37,9 @@ holds-run {start} {readings} {s} (Event.tick reading ∷ events) solid h going =
     (holds-run {readings = readings ++ reading ∷ []} events next (rw (tick-leaves (solid .sound) reading small) (holds-ticked h reading small)) (going .1)))
     (λ high. holds-run {readings = readings} events next (rw (tick-passed (solid .sound) reading (leb-false reading 2047 high)) h) (going .1))
 holds-run {readings = readings} (Event.reset ∷ events) solid h going =
-    holds-run {readings = readings} events (solid-after solid Event.reset) (rw (reset-leaves solid) h) (going .1)
+    holds-run {readings = readings} events (solid-after solid Event.reset) (holds-kept (reset-keeps (solid .sound)) h) (going .1)
+holds-run {readings = readings} (Event.short ∷ events) solid h going =
+    holds-run {readings = readings} events (solid-after solid Event.short) (holds-kept (short-keeps (solid .sound)) h) (going .1)
 holds-run {readings = readings} {s = s} (Event.slot bit ∷ events) solid h going =
     let goes : isStop (slotAt s bit .deed) ≡ false = going .0 .goes in
     rw goes

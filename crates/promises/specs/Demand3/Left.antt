@@ -1,6 +1,6 @@
 -- What is left to the ticks: a tag with checking on, to which no field carries the full password, ends but for Forced Conversions as its
 -- ticks alone would have left it. Whether a field may read counts for nothing here (request #109). Assumes nothing.
-use mathlib.Core.Path.{_≡_, refl, sym, ap, _∙_}
+use mathlib.Core.Path.{_≡_, refl, sym, ap, subst, _∙_}
 use mathlib.Core.Bool.{Bool, true, false, true≢false}
 use mathlib.Core.List.{List, [], _∷_}
 use mathlib.Core.Logic.{_≢_, dite, ⊎-elim}
@@ -9,6 +9,7 @@ use native.Mathlib.Decide.{decLe}
 use native.Mathlib.Omega.{arith}
 use borrow.Author.Tests.{eq-eqb}
 use lib.ListN.{length}
+use Rattle.exchange.specs.declared.Exchange.{Exchange}
 use Rattle.exchange.specs.Exchange as exchange
 use Rattle.exchange.specs.Exchange.Laws as exchange-laws
 use Rattle.image.specs.Answers.{checked}
@@ -16,19 +17,21 @@ use Rattle.image.specs.Answers.Laws.{SameKeys, keys-then, keys-kept}
 use Rattle.image.specs.Fields.{flagAt}
 use Rattle.image.specs.Leaves.{leaves-same}
 use Rattle.image.specs.Registers.{mip, eosc, passwordControl, fullPassword}
+use Rattle.select.specs.declared.Select.{Select}
+use Rattle.select.specs.Select.{resetSelect, restarted}
 use Rattle.memory.specs.Phases.{writing, letsWrite, unguarded}
 use Rattle.memory.specs.Phases.Laws.{shut-writing}
 use Rattle.mission.specs.Mission.Frames.{leaves-ticked, leaves-forced, mip-ticked, mip-forced}
 use Rattle.mission.specs.declared.Counters.{Counters}
 use Rattle.mission.specs.Mission.{forced, ticked, tickedCounters}
 use Rattle.mission.specs.Mission.Commands.{forced-mission}
-use Rattle.event.specs.Event.{answerTo, slotted, resetTag, tickTag}
+use Rattle.event.specs.Event.{answerTo, slotted, resetTag, shortTag, tickTag}
 use Rattle.record.specs.Record.Laws.{ranges-of}
 use Rattle.promises.specs.Demand3.{EndsField, Forces, Converted, Unconverted, LeftToTicks, NoPassword}
 use Rattle.promises.specs.Demand3.Image.{counters-idle, Spoilt, spoilt-idle, spoilt-forced, spoilt-ticked}
 use Rattle.promises.specs.Demand3.Slot.{unlet-write, convert-forces, unguarded-performed, unguarded-counters}
-use Rattle.promises.specs.Runs.{State, Event, after, run, ticksOf, Always, OnSlots}
-use Rattle.promises.specs.Runs.Laws.{invariant-always, always-map, Sound, sound-after, slot-happens, reset-happens, tick-happens, tick-refused, on-slots, all-slots, always-all}
+use Rattle.promises.specs.Runs.{State, Event, after, run, ticksOf, Kept, Always, OnSlots}
+use Rattle.promises.specs.Runs.Laws.{invariant-always, always-map, Sound, sound-after, slot-happens, reset-happens, short-happens, reset-keeps, short-keeps, tick-happens, tick-refused, on-slots, all-slots, always-all}
 
 -- no password field carries the full password of this image
 abbrev pub NoFull : List ℕ → State → Event → Type 0
@@ -102,7 +105,7 @@ module _ {image : List ℕ} {s : State} (g : Guards image s) (bit : Bool) (wrong
         on = g .on;
       }
 
--- ---- a reset and a tick
+-- ---- resets and a tick
 
 -- what holds of a tick's outcome and of the state as it is holds of the state after the tick, valid or not
 pub tick-cases : {s : State} (sound : Sound s) (reading : ℕ) (P : State → Type 0) →
@@ -112,13 +115,29 @@ unfolding after
 tick-cases sound reading P valid refused =
     dite (decLe reading 2047) (λ small. rw (tick-happens sound reading small) valid) (λ high. rw (tick-refused sound reading (omega arith)) refused)
 
+-- after a reset no field has been let write
+begun-unwritten : (x : Exchange) (next : Select) → writing (exchange.begun x next .bus .stage) ≡ false
+begun-unwritten x next = shut-writing _ (exchange-laws.begun-shut x next)
+
 reset-guards : {image : List ℕ} {s : State} → Guards image s → Guards image (after s Event.reset)
 unfolding after resetTag
-reset-guards {s} g =
+reset-guards {image} {s} g =
     record {
       sound = sound-after Event.reset (g .sound);
-      shut = rw (reset-happens (g .sound)) (shut-writing _ (exchange-laws.reset-shut (s .tag .exchange)));
-      keys = rw (reset-happens (g .sound)) (g .keys);
+      shut = rw (reset-happens (g .sound)) (begun-unwritten (s .tag .exchange) (resetSelect (s .tag .exchange .select)));
+      keys = subst (SameKeys image) (sym (reset-keeps (g .sound) .image)) (g .keys);
+      on = g .on;
+    }
+
+short-guards : {image : List ℕ} {s : State} → Guards image s → Guards image (after s Event.short)
+unfolding after shortTag
+short-guards {image} {s} g =
+    let x = s .tag .exchange in
+    record {
+      sound = sound-after Event.short (g .sound);
+      shut = rw (short-happens (g .sound))
+          (exchange-laws.short-cases (λ y. writing (y .bus .stage) ≡ false) x (λ fast. begun-unwritten x (restarted (x .select))) (λ slow. g .shut));
+      keys = subst (SameKeys image) (sym (short-keeps (g .sound) .image)) (g .keys);
       on = g .on;
     }
 
@@ -135,6 +154,7 @@ tick-guards {image} {s} reading g =
 pub guards-after : {image : List ℕ} (s : State) (e : Event) → Guards image s → NoFull image s e → Guards image (after s e)
 guards-after s (Event.slot bit) g wrong = slot-guards g bit wrong
 guards-after s Event.reset g wrong = reset-guards g
+guards-after s Event.short g wrong = short-guards g
 guards-after s (Event.tick reading) g wrong = tick-guards reading g
 
 -- ---- the run beside that of its ticks
@@ -163,17 +183,16 @@ module _ (Q : List ℕ → List ℕ → Type 0) (P : State → Bool → Type 0)
         images = slot-image (b .guards) bit wrong (Q (t .image)) (b .images) (λ f. forces (t .image) s bit (b .guards .sound .size) p f (b .images));
       }
 
-  beside-reset : {s t : State} → Beside Q image s t → Beside Q image (after s Event.reset) t
-  unfolding after resetTag
-  beside-reset b =
-      let h = reset-happens (b .guards .sound) in
+  -- a reset of either kind
+  beside-kept : {s t u : State} → Beside Q image s t → Guards image u → Kept s u → Beside Q image u t
+  beside-kept {t = t} b guards kept =
       record {
-        guards = reset-guards (b .guards);
+        guards = guards;
         sound = b .sound;
-        number = rw h (b .number);
-        code = rw h (b .code);
-        counters = rw h (b .counters);
-        images = rw h (b .images);
+        number = kept .number ∙ b .number;
+        code = kept .code ∙ b .code;
+        counters = kept .counters ∙ b .counters;
+        images = subst (Q (t .image)) (sym (kept .image)) (b .images);
       }
 
   beside-tick : {s t : State} (reading : ℕ) → Beside Q image s t → Beside Q image (after s (Event.tick reading)) (after t (Event.tick reading))
@@ -209,7 +228,10 @@ module _ (Q : List ℕ → List ℕ → Type 0) (P : State → Bool → Type 0)
   unfolding run ticksOf Always
   beside-run [] b wrong p = b
   beside-run (Event.slot bit ∷ E) b wrong p = beside-run E (beside-slot bit b (wrong .0) (p .0)) (wrong .1) (p .1)
-  beside-run (Event.reset ∷ E) b wrong p = beside-run E (beside-reset b) (wrong .1) (p .1)
+  beside-run (Event.reset ∷ E) b wrong p =
+      beside-run E (beside-kept b (reset-guards (b .guards)) (reset-keeps (b .guards .sound))) (wrong .1) (p .1)
+  beside-run (Event.short ∷ E) b wrong p =
+      beside-run E (beside-kept b (short-guards (b .guards)) (short-keeps (b .guards .sound))) (wrong .1) (p .1)
   beside-run (Event.tick reading ∷ E) b wrong p = beside-run E (beside-tick reading b) (wrong .1) (p .1)
 
 -- ---- no Forced Conversion is done
@@ -239,10 +261,13 @@ pub flag-stays : (at i : ℕ) (b : Bool) →
     ((image : List ℕ) (c : Counters) → flagAt (forced image c) at i ≡ flagAt image at i) →
     (image : List ℕ) (s : State) (e : Event) → Guards image s × (flagAt (s .image) at i ≡ b) → NoFull image s e →
     Guards image (after s e) × (flagAt (after s e .image) at i ≡ b)
-unfolding after resetTag tickTag
+unfolding after tickTag
 flag-stays at i b by-tick by-force image s (Event.slot bit) (g, h) wrong =
     (slot-guards g bit wrong, slot-image g bit wrong (λ j. flagAt j at i ≡ b) h (λ f. by-force (s .image) (s .tag .counters) ∙ h))
-flag-stays at i b by-tick by-force image s Event.reset (g, h) wrong = (reset-guards g, rw (reset-happens (g .sound)) h)
+flag-stays at i b by-tick by-force image s Event.reset (g, h) wrong =
+    (reset-guards g, ap (λ (j : List ℕ). flagAt j at i) (reset-keeps (g .sound) .image) ∙ h)
+flag-stays at i b by-tick by-force image s Event.short (g, h) wrong =
+    (short-guards g, ap (λ (j : List ℕ). flagAt j at i) (short-keeps (g .sound) .image) ∙ h)
 flag-stays at i b by-tick by-force image s (Event.tick reading) (g, h) wrong =
     (tick-guards reading g, tick-cases (g .sound) reading (λ u. flagAt (u .image) at i ≡ b) (by-tick (s .image) (s .tag .counters) reading ∙ h) h)
 

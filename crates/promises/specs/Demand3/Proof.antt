@@ -1,6 +1,6 @@
 -- Demand 3: two tags that stand alike go on alike, since no password lets them part; each is left to its ticks. Assumes nothing.
 use mathlib.Core.Path.{_≡_, sym, ap, _∙_, subst}
-use mathlib.Core.Bool.{Bool, false}
+use mathlib.Core.Bool.{Bool, false, not}
 use mathlib.Core.List.{List}
 use Prim.Native.Nat.{ℕ}
 use Rattle.exchange.specs.declared.Exchange.{Exchange}
@@ -8,7 +8,8 @@ use Rattle.exchange.specs.declared.Slotted.{Slotted}
 use Rattle.exchange.specs.Exchange as exchange
 use Rattle.exchange.specs.Exchange.Laws as exchange-laws
 use Rattle.memory.specs.Phases.{opened, lets}
-use Rattle.event.specs.Event.{answerTo, slotted, resetTag, tickTag}
+use Rattle.select.specs.Select.{resetSelect, restarted}
+use Rattle.event.specs.Event.{answerTo, slotted, resetTag, shortTag, tickTag}
 use Rattle.record.specs.Record.{Outcome}
 use Rattle.promises.specs.Alarms.{alarmFlag, alarmed-flag}
 use Rattle.promises.specs.Demand3.{Conditional, Alike, NoPassword, AlarmsAgree, Demand3}
@@ -16,7 +17,7 @@ use Rattle.promises.specs.Demand3.Reset.{reset-again, reset-opened, begi
 use Rattle.promises.specs.Demand3.Left.{Guards, guards-checked, guards-range, guards-after, left-to-ticks, no-full}
 use Rattle.promises.specs.Demand3.Slot.{alarm-asked, unlet}
 use Rattle.promises.specs.Runs.{State, Event, after, lineBit}
-use Rattle.promises.specs.Runs.Laws.{relation, always-map, together-with, slot-happens, reset-happens, tick-happens}
+use Rattle.promises.specs.Runs.Laws.{relation, always-map, together-with, slot-happens, reset-happens, short-happens, tick-happens}
 
 -- ---- one event of two tags that stand alike
 
@@ -76,7 +77,7 @@ module _ {i j : List ℕ} {s t : State} (w : Twins i j s t) (bit : Bool)
 
 pub twins-after : {i j : List ℕ} (s : State) (e : Event) (t : State) (f : Event) → Twins i j s t → Come i j s e t f →
     (lineBit s e ≡ lineBit t f) × Twins i j (after s e) (after t f)
-unfolding after resetTag tickTag
+unfolding after resetTag shortTag tickTag
 twins-after s e t f w (wrong-s, wrong-t, Alike.slots bit, alarms) = (slot-line w bit wrong-s wrong-t alarms, slot-twins w bit wrong-s wrong-t alarms)
 twins-after s e t f w (wrong-s, wrong-t, Alike.resets, alarms) =
     let p = reset-happens (w .guards-s .sound) in
@@ -85,8 +86,21 @@ twins-after s e t f w (wrong-s, wrong-t, Alike.resets, alarms) =
       record {
         guards-s = guards-after s Event.reset (w .guards-s) tt;
         guards-t = guards-after t Event.reset (w .guards-t) tt;
-        shut = rw p (exchange-laws.reset-shut (s .tag .exchange));
+        shut = rw p (exchange-laws.begun-shut (s .tag .exchange) (resetSelect (s .tag .exchange .select)));
         same = rw (p, q) (ap exchange.afterReset (w .same));
+      },
+    )
+twins-after s e t f w (wrong-s, wrong-t, Alike.shorts, alarms) =
+    let p = short-happens (w .guards-s .sound) in
+    let q = short-happens (w .guards-t .sound) in
+    let x = s .tag .exchange in (
+      ap lineOf p ∙ ap (λ (y : Exchange). not (y .select .mode .speed)) (w .same) ∙ sym (ap lineOf q),
+      record {
+        guards-s = guards-after s Event.short (w .guards-s) tt;
+        guards-t = guards-after t Event.short (w .guards-t) tt;
+        shut = rw p
+            (exchange-laws.short-cases (λ y. opened (y .bus .stage) ≡ false) x (λ fast. exchange-laws.begun-shut x (restarted (x .select))) (λ slow. w .shut));
+        same = rw (p, q) (ap exchange.afterShort (w .same));
       },
     )
 twins-after s e t f w (wrong-s, wrong-t, Alike.ticks m n small-m small-n, alarms) =

@@ -7,6 +7,7 @@ use Rattle.exchange.specs.Exchange as exchange
 use Rattle.exchange.specs.Exchange.Laws as exchange-laws
 use Rattle.image.specs.Answers.Laws.{keys-same}
 use Rattle.image.specs.Registers.{passwordControl}
+use Rattle.select.specs.Select.{resetSelect}
 use Rattle.memory.specs.Phases.{opened}
 use Rattle.memory.specs.Phases.Laws.{shut-writing}
 use Rattle.event.specs.Event.{resetTag}
@@ -27,7 +28,7 @@ pub reset-sound : {s : State} → JustReset s → Sound s
 reset-sound r = rw (r .reset) (sound-after Event.reset (reached-sound (r .reached)))
 
 pub reset-opened : {s : State} → JustReset s → opened (s .tag .exchange .bus .stage) ≡ false
-reset-opened {s} r = rw (reset-again r) (exchange-laws.reset-shut (s .tag .exchange))
+reset-opened {s} r = rw (reset-again r) (exchange-laws.begun-shut (s .tag .exchange) (resetSelect (s .tag .exchange .select)))
 
 pub begins-guarded : {s : State} → JustReset s → passwordControl (s .image) ≡ 0xAA → Guards (s .image) s
 begins-guarded r on = record { sound = reset-sound r; shut = shut-writing _ (reset-opened r); keys = keys-same; on = on }
@@ -43,6 +44,6 @@ begins-alike reset-s reset-t on-s on-t same alike =
       checked-t = on-t;
       number = ap (λ (x : Exchange). x .number) same;
       held = ap (λ (x : Exchange). x .held) same;
-      mark = ap (λ (x : Exchange). x .select .mark) same;
+      mark = ap (λ (x : Exchange). x .select .mode .mark) same;
       alike = alike;
     }

@@ -15,65 +15,71 @@ use Rattle.exchange.specs.Exchange.{afterReset as exchange-reset}
 use Rattle.exchange.specs.Runs.{chosen}
 use Rattle.exchange.specs.Runs.Laws.{alarmIn, run-choosing}
 use Rattle.select.specs.declared.Choosing.the-variants.{Silent, Command}
+use Rattle.select.specs.declared.Mode.{Mode}
 use Rattle.select.specs.declared.Select.{Select}
-use Rattle.select.specs.Select.{keeps, resetSelect, romCommand}
+use Rattle.select.specs.Select.{keeps, listening, romCommand}
 use Rattle.select.specs.Select.Mark.{joins, rom-unknown}
 use Rattle.select.specs.Runs as select
 use Rattle.select.specs.Runs.{searchWith, searchAnswers}
-use Rattle.select.specs.Runs.Laws.{run-silent, run-search, run-resume}
+use Rattle.select.specs.Runs.Laws.{run-silent, matchByte, run-search, run-resume}
 use Rattle.select.specs.Runs.Through.{Lasts, choosing-while, choosing-through}
 use Rattle.event.specs.Event.{answerTo, resetTag}
 use Rattle.promises.specs.Alarms.{alarmFlag, alarmed-flag}
 use Rattle.promises.specs.Line.Dropped.{Dropped, byte-dropped, unknown-byte, match-dropped, length-search, search-dropped}
-use Rattle.promises.specs.Line.Slots.{numberOf, answersOf, afterReset, withExchange, line-event, slots-quiet, run-slots, run-reset, Kept}
-use Rattle.promises.specs.Runs.{State, Event, after, lineBit, Ran, run}
-use Rattle.promises.specs.Runs.Laws.{Sound, reset-happens}
+use Rattle.promises.specs.Line.Slots.{numberOf, answersOf, afterReset, withExchange, line-event, slots-quiet, run-slots, run-reset}
+use Rattle.promises.specs.Runs.{State, Event, after, lineBit, Ran, run, Kept}
+use Rattle.promises.specs.Runs.Laws.{Sound, reset-happens, reset-keeps}
 
 -- a reset and this ROM command byte, and then these slots
 abbrev pub rom : ℕ → List Bool → List Event
 rom byte bits = Event.reset ∷ map Event.slot (bitsOf 8 byte ++ bits)
 
 abbrev pub markOf : State → Bool
-markOf s = s .tag .exchange .select .mark
+markOf s = s .tag .exchange .select .mode .mark
 
--- the line carries these bits, nothing has changed but the bus state, and the tag is silent, with this Resume mark
+-- with this Resume mark, at standard speed
+abbrev pub slowly : Bool → Mode
+slowly mark = record { mark = mark; speed = false }
+
+-- the line carries these bits, nothing has changed but the bus state, and the tag is silent, with this Resume mark, at standard speed
 abbrev pub Passes : State → List Bool → Bool → Ran → Type 0
-Passes s line mark ran = (ran .line ≡ line) × Kept s (ran .state) × (ran .state .tag .exchange .select ≡ keeps mark Silent)
+Passes s line mark ran = (ran .line ≡ line) × Kept s (ran .state) × (ran .state .tag .exchange .select ≡ keeps (slowly mark) Silent)
 
 module _ (s : State) (sound : Sound s) where
-  -- "Reset gives 0 (presence)", and nothing changes, nor the Resume mark; "After reset comes a ROM command", whatever went on before it
+  -- "Reset gives 0 (presence)", and nothing changes, nor the Resume mark; "After reset comes a ROM command", whatever went on before it, at
+  -- standard speed
   pub reset-line : let next = after s Event.reset in
-      (lineBit s Event.reset ≡ false) × Kept s next × (next .tag .exchange .select ≡ keeps (markOf s) (Command 0 0))
+      (lineBit s Event.reset ≡ false) × Kept s next × (next .tag .exchange .select ≡ keeps (slowly (markOf s)) (Command 0 0))
   unfolding after resetTag
   reset-line =
       let reset = reset-happens sound in
-      (line-event s Event.reset reset, rw reset (record { image = refl; code = refl; counters = refl; number = refl; held = refl }), rw reset)
+      (line-event s Event.reset reset, reset-keeps sound, rw reset)
 
   -- a silent tag leaves the line to the master, and stays as it is; so do ticks leave it (`ticks-line` in Converting)
-  pub silent-run : (mark : Bool) (bits : List Bool) → s .tag .exchange .select ≡ keeps mark Silent →
+  pub silent-run : (mode : Mode) (bits : List Bool) → s .tag .exchange .select ≡ keeps mode Silent →
       run s (map Event.slot bits) ≡ record { line = bits; state = s }
   unfolding Lasts
-  silent-run mark bits silent =
+  silent-run mode bits silent =
       let x = s .tag .exchange in
       let with : Select → Ran = λ next.
       record { line = bits; state = withExchange s (record { number = x .number; select = next; held = x .held; bus = x .bus }) } in
       run-slots s bits sound
       ∙ slots-quiet s bits
       (run-choosing (answersOf s) x bits (choosing-while (x .select) (x .number) (alarmIn (answersOf s)) bits (rw silent tt))
-      ∙ rw (silent, run-silent mark (x .number) (alarmIn (answersOf s)) bits))
+      ∙ rw (silent, run-silent mode (x .number) (alarmIn (answersOf s)) bits))
       ∙ ap with (sym silent)
 
   -- ---- what select says of slots in which the tag is still being chosen
 
-  abbrev before : Select
-  before = resetSelect (s .tag .exchange .select)
+  abbrev before : Mode
+  before = slowly (markOf s)
 
   abbrev alarm : Bool
   alarm = alarmIn (answersOf s)
 
   chosen-run : (bits : List Bool) {next : Select} {line : List Bool} →
-      select.stillChoosing before (numberOf s) alarm bits ≡ true →
-      select.run before (numberOf s) alarm bits ≡ record { select = next; line = line } →
+      select.stillChoosing (listening before) (numberOf s) alarm bits ≡ true →
+      select.run (listening before) (numberOf s) alarm bits ≡ record { select = next; line = line } →
       run s (Event.reset ∷ map Event.slot bits) ≡
       record {
         line = false ∷ line;
@@ -85,24 +91,24 @@ module _ (s : State) (sound : Sound s) where
       run-reset s bits sound
       (slots-quiet (afterReset s) bits (run-choosing (answersOf s) (exchange-reset (s .tag .exchange)) bits still ∙ rw e))
 
-  passes-run : (bits : List Bool) {mark : Bool} {line : List Bool} → Dropped (s .tag .exchange .select) (numberOf s) alarm bits mark line →
+  passes-run : (bits : List Bool) {mark : Bool} {line : List Bool} → Dropped before (numberOf s) alarm bits (slowly mark) line →
       Passes s (false ∷ line) mark (run s (Event.reset ∷ map Event.slot bits))
   passes-run bits dropped =
       rw (chosen-run bits (dropped .0) (dropped .1))
       (refl, record { image = refl; code = refl; counters = refl; number = refl; held = refl }, refl)
 
   -- by its byte alone
-  passes-byte : (byte : ℕ) (bits : List Bool) {mark : Bool} → byte < 256 → romCommand byte (markOf s) alarm ≡ keeps mark Silent →
+  passes-byte : (byte : ℕ) (bits : List Bool) {mark : Bool} → byte < 256 → romCommand byte before alarm ≡ keeps (slowly mark) Silent →
       Passes s (false ∷ (bitsOf 8 byte ++ bits)) mark (run s (rom byte bits))
-  passes-byte byte bits fits e = passes-run (bitsOf 8 byte ++ bits) (byte-dropped (s .tag .exchange .select) (numberOf s) byte alarm bits fits e)
+  passes-byte byte bits fits e = passes-run (bitsOf 8 byte ++ bits) (byte-dropped before (numberOf s) byte alarm bits fits e)
 
   -- ---- Match and Search
 
-  -- "Match 55h": with 64 bits that are not the number's the tag is silent, whatever follows
-  pub passes-match : (bits more : List Bool) → length bits ≡ 64 → bits ≢ bitsOf 64 (numberOf s) →
-      Passes s (false ∷ (bitsOf 8 0x55 ++ (bits ++ more))) false (run s (rom 0x55 (bits ++ more)))
-  passes-match bits more whole other =
-      passes-run (bitsOf 8 0x55 ++ (bits ++ more)) (match-dropped (s .tag .exchange .select) (numberOf s) alarm bits more whole other)
+  -- "Match 55h", and 69h, which is fast: with 64 bits that are not the number's the tag is silent, whatever follows
+  pub passes-match : (fast : Bool) (bits more : List Bool) → length bits ≡ 64 → bits ≢ bitsOf 64 (numberOf s) →
+      let byte = matchByte fast in Passes s (false ∷ (bitsOf 8 byte ++ (bits ++ more))) false (run s (rom byte (bits ++ more)))
+  passes-match fast bits more whole other =
+      passes-run (bitsOf 8 (matchByte fast) ++ (bits ++ more)) (match-dropped before (numberOf s) alarm fast bits more whole other)
 
   -- "drops out if it differs": the choices are the number's first k bits, and then not bit k; from there on the line is the master's
   pub passes-search : (k : ℕ) (more : List Bool) → k ≤ 63 →
@@ -112,7 +118,7 @@ module _ (s : State) (sound : Sound s) where
       (run s (rom 0xF0 (searchWith right ++ (true ∷ true ∷ not own ∷ more))))
   passes-search k more low =
       passes-run (bitsOf 8 0xF0 ++ (searchWith (bitsOf k (numberOf s)) ++ (true ∷ true ∷ not (bitOf (numberOf s) k) ∷ more)))
-      (search-dropped (s .tag .exchange .select) (numberOf s) alarm k more low)
+      (search-dropped before (numberOf s) alarm k more low)
 
   -- ---- Conditional Search
 
@@ -121,7 +127,7 @@ module _ (s : State) (sound : Sound s) where
       run s (rom 0xEC (searchWith bits)) ≡
       record {
         line = false ∷ (bitsOf 8 0xEC ++ searchAnswers bits);
-        state = withExchange s (chosen (numberOf s) true (s .tag .exchange .held));
+        state = withExchange s (chosen (numberOf s) (slowly true) (s .tag .exchange .held));
       }
   unfolding answerTo romCommand Lasts joins
   joins-conditional flag =
@@ -129,9 +135,9 @@ module _ (s : State) (sound : Sound s) where
       let slots = searchWith (bitsOf 64 (x .number)) in
       let asked : alarm ≡ true = rw (alarmed-flag (s .image), flag) in
       chosen-run (bitsOf 8 0xEC ++ slots)
-      (choosing-through (x .select) (x .number) 0xEC alarm slots (omega arith)
+      (choosing-through before (x .number) 0xEC alarm slots (omega arith)
       (rw asked (omega (arith, length-search (bitsOf 64 (x .number)), length-bits 64 (x .number)))))
-      (run-search (x .select) (x .number) 0xEC alarm (omega arith) asked)
+      (run-search before (x .number) 0xEC alarm (omega arith) asked)
 
   -- without any of them the line is the master's, whatever follows
   pub passes-conditional : (bits : List Bool) → alarmFlag (s .image) ≡ false →
@@ -146,12 +152,12 @@ module _ (s : State) (sound : Sound s) where
   -- "Resume needs" the mark: with it the tag is chosen, as after a whole Match
   pub joins-resume : markOf s ≡ true →
       run s (rom 0xA5 []) ≡
-      record { line = false ∷ bitsOf 8 0xA5; state = withExchange s (chosen (numberOf s) true (s .tag .exchange .held)) }
+      record { line = false ∷ bitsOf 8 0xA5; state = withExchange s (chosen (numberOf s) (slowly true) (s .tag .exchange .held)) }
   unfolding romCommand Lasts bitsOf
   joins-resume marked =
       let x = s .tag .exchange in
-      chosen-run (bitsOf 8 0xA5) (choosing-through (x .select) (x .number) 0xA5 alarm [] (omega arith) (rw marked refl))
-      (run-resume (x .select) (x .number) alarm ∙ rw marked)
+      chosen-run (bitsOf 8 0xA5) (choosing-through before (x .number) 0xA5 alarm [] (omega arith) (rw marked refl))
+      (run-resume before (x .number) alarm ∙ rw marked)
 
   -- and without it the tag is silent, whatever follows
   pub passes-resume : (bits : List Bool) → markOf s ≡ false →
@@ -161,6 +167,6 @@ module _ (s : State) (sound : Sound s) where
 
   -- "Any other byte: silent until reset"; the mark stays
   pub passes-unknown : (byte : ℕ) (bits : List Bool) → byte < 256 →
-      (byte ≢ 0x33) × (byte ≢ 0x55) × (byte ≢ 0xF0) × (byte ≢ 0xEC) × (byte ≢ 0xCC) × (byte ≢ 0xA5) →
+      (byte ≢ 0x33) × (byte ≢ 0x55) × (byte ≢ 0x69) × (byte ≢ 0xF0) × (byte ≢ 0xEC) × (byte ≢ 0xCC) × (byte ≢ 0x3C) × (byte ≢ 0xA5) →
       Passes s (false ∷ (bitsOf 8 byte ++ bits)) (markOf s) (run s (rom byte bits))
-  passes-unknown byte bits small others = passes-byte byte bits small (rom-unknown byte (markOf s) alarm (unknown-byte byte others))
+  passes-unknown byte bits small others = passes-byte byte bits small (rom-unknown byte before alarm (unknown-byte byte others))

@@ -13,7 +13,7 @@ use lib.ListN.{getD}
 use Rattle.bits.specs.Bits.{bitsOf}
 use Rattle.bits.specs.Choose.{if_then_else_}
 use Rattle.calendar.specs.declared.Clock.{Clock}
-use Rattle.exchange.specs.Runs.{Way, wayMark}
+use Rattle.exchange.specs.Runs.{Way, wayMode}
 use Rattle.exchange.specs.Runs.Laws.{quiet-then}
 use Rattle.image.specs.Answers.{checked, mayControl}
 use Rattle.image.specs.Answers.Laws.{control-refused}
@@ -35,13 +35,13 @@ use Rattle.record.specs.Record.Laws.{ranges-of}
 use Rattle.promises.specs.Demand2.AtStart.{rate-of}
 use Rattle.promises.specs.Demand2.Course.{reached-solid, four-facts}
 use Rattle.promises.specs.Demand2.Events.{MayStart}
-use Rattle.promises.specs.Runs.{State, run, Ran, Reached}
+use Rattle.promises.specs.Runs.{State, Ran, run, Kept, Reached}
 use Rattle.promises.specs.Runs.Laws.{Sound, reached-sound}
 use Rattle.promises.specs.Line.ControlRun.{controlSlots, controlByte, controlBus, control-head, control-undone, control-refused as refused}
 use Rattle.promises.specs.Line.Converting.{alarms}
 use Rattle.promises.specs.Line.Deeds as deeds
 use Rattle.promises.specs.Line.Passwords.{PassesFull, full-may}
-use Rattle.promises.specs.Line.Slots.{numberOf, session, greeting, session-quiet, answersOf, Kept, kept-by}
+use Rattle.promises.specs.Line.Slots.{numberOf, session, greeting, session-quiet, answersOf, kept-by}
 
 -- ---- what becomes of the registers, and that every other byte and bit stays
 
@@ -215,12 +215,12 @@ module _ {s : State} (reached : Reached s) (way : Way) (field : ℕ) (fits : fie
   controls-unconfirmed control byte g small other =
       let held = s .tag .exchange .held in
       let number = numberOf s in
-      let mark = wayMark way in
+      let mode = wayMode way false in
       let answer : eqb (answersOf s (Question.MayControl field)) 1 ≡ true = rw may in
       kept-by s (session-quiet s sound way _
       (quiet-then (answersOf s) _ (bitsOf 8 (controlByte control) ++ bitsOf 64 field) (bitsOf 8 byte)
-      (control-head (answersOf s) number mark held control g field fits answer)
-      (control-undone (answersOf s) number mark held control (controlBus control) byte small other)))
+      (control-head (answersOf s) number mode held control g field fits answer)
+      (control-undone (answersOf s) number mode held control (controlBus control) byte small other)))
 
 -- a wrong password, with checking on: nothing is done whatever follows, and the line is the master's, as with the right one
 pub controls-nothing : (s : State) (sound : Sound s) (way : Way) (field : ℕ) → field < 2 ^ 64 →
@@ -232,7 +232,7 @@ unfolding answerTo checked
 controls-nothing s sound way field fits control bits g on wrong =
     let held = s .tag .exchange .held in
     let answer : eqb (answersOf s (Question.MayControl field)) 1 ≡ false = rw (control-refused (s .image) field (eq-eqb _ 0xAA on) wrong) in
-    kept-by s (session-quiet s sound way _ (refused (answersOf s) (numberOf s) (wayMark way) held control g field fits bits answer))
+    kept-by s (session-quiet s sound way _ (refused (answersOf s) (numberOf s) (wayMode way false) held control g field fits bits answer))
 
 -- ---- Forced Conversion
 

@@ -31,7 +31,7 @@ use Rattle.conversion.specs.Conversion.Whole.{Whole}
 use Rattle.mission.specs.Mission.Frames.{leaves-missionTicked}
 use Rattle.mission.specs.Mission.Ticks.{clock-clocked, ticked-idle, ticked-due, leaves-quiet, converts-ticked}
 use Rattle.mission.specs.declared.Counters.{Counters}
-use Rattle.event.specs.Event.{performedCounters, slotted, resetTag, tickTag}
+use Rattle.event.specs.Event.{performedCounters, slotted, tickTag}
 use Rattle.tag.specs.Tag.{newTag}
 use Rattle.tag.specs.Tag.Laws.{new-good, new-made}
 use Rattle.promises.specs.Demand2.AtStart.{settingsOf}
@@ -44,7 +44,7 @@ use Rattle.promises.specs.History
 use Rattle.promises.specs.History.Laws.{isNone, history-le}
 use Rattle.promises.specs.Line.Slots.{line-event}
 use Rattle.promises.specs.Runs.{State, Event, after, lineBit, run, Reached, Always}
-use Rattle.promises.specs.Runs.Laws.{Sound, reached-sound, sound-after, slot-happens, reset-happens, tick-happens, tick-refused}
+use Rattle.promises.specs.Runs.Laws.{Sound, reached-sound, sound-after, slot-happens, reset-keeps, short-keeps, tick-happens, tick-refused}
 
 -- ---- alarms
 
@@ -162,6 +162,7 @@ unfoldable pub lastReading : ℕ → List Event → ℕ
 lastReading before [] = before
 lastReading before (Event.slot bit ∷ es) = lastReading before es
 lastReading before (Event.reset ∷ es) = lastReading before es
+lastReading before (Event.short ∷ es) = lastReading before es
 lastReading before (Event.tick reading ∷ es) = lastReading (if leb reading 2047 then reading else before) es
 
 -- "0 before any"
@@ -184,13 +185,15 @@ reading-performed Deed.Convert c image = refl
 -- "the last tick's reading", mission or not
 pub reads-last : {s : State} → Sound s → (events : List Event) →
     run s events .state .tag .counters .reading ≡ lastReading (s .tag .counters .reading) events
-unfolding run lastReading after slotted resetTag tickTag Mission.tickedCounters
+unfolding run lastReading after slotted tickTag Mission.tickedCounters
 reads-last sound [] = refl
 reads-last {s} sound (Event.slot bit ∷ es) =
     reads-last (sound-after (Event.slot bit) sound) es
     ∙ ap (λ (n : ℕ). lastReading n es) (rw (slot-happens sound bit) (reading-performed _ (s .tag .counters) (s .image)))
 reads-last {s} sound (Event.reset ∷ es) =
-    reads-last (sound-after Event.reset sound) es ∙ ap (λ (n : ℕ). lastReading n es) (rw (reset-happens sound))
+    reads-last (sound-after Event.reset sound) es ∙ ap (λ (c : Counters). lastReading (c .reading) es) (reset-keeps sound .counters)
+reads-last {s} sound (Event.short ∷ es) =
+    reads-last (sound-after Event.short sound) es ∙ ap (λ (c : Counters). lastReading (c .reading) es) (short-keeps sound .counters)
 reads-last {s} sound (Event.tick reading ∷ es) =
     reads-last (sound-after (Event.tick reading) sound) es
     ∙ ap (λ (n : ℕ). lastReading n es)

@@ -26,6 +26,7 @@ use Rattle.bus.specs.Bus.{goTo, noting, listens, statusByte}
 use Rattle.memory.specs.Hear.{commandStage, addressHeard, heardWhole}
 use Rattle.field.specs.Field.{asHeld, toTheEnd, copies, withAA, judged}
 use Rattle.memory.specs.Runs.Scratchpad.{overAt}
+use Rattle.select.specs.declared.Mode.{Mode}
 use Rattle.promises.specs.Line.Commands.{heard-then, head-run}
 
 -- 99h, TA1, TA2, E/S
@@ -36,35 +37,35 @@ copyHead address status = 0x99 ∷ address % 256 ∷ address / 256 ∷ status �
 abbrev pub copyBus : ℕ → ℕ → Bus
 copyBus address status = noting (overAt (crc16Run 0 (0x99 ∷ address % 256 ∷ address / 256 ∷ [])) address) status
 
-module _ (answers : Question → ℕ) (number : ℕ) (mark : Bool) (held : Held) where
+module _ (answers : Question → ℕ) (number : ℕ) (mode : Mode) (held : Held) where
   pub copy-head : (address status : ℕ) → address < 65536 → status < 256 →
-      run answers (chosen number mark held) (slotsOf (copyHead address status)) ≡
-      quietly (commanding number mark held (goTo (copyBus address status) (Stage.Gathers Guarded.Copying))) (slotsOf (copyHead address status))
+      run answers (chosen number mode held) (slotsOf (copyHead address status)) ≡
+      quietly (commanding number mode held (goTo (copyBus address status) (Stage.Gathers Guarded.Copying))) (slotsOf (copyHead address status))
   unfolding commandStage addressHeard heardWhole flatMap
   copy-head address status fits small =
       let head : List ℕ = 0x99 ∷ address % 256 ∷ address / 256 ∷ [] in
       let start = overAt (crc16Run 0 head) address in
       rw (slots-append head (status ∷ []))
       (quiet-then answers _ (slotsOf head) _
-      (head-run answers number mark held Addressed.Copy (Stage.Hears Hearing.Status) 0x99 address (omega arith) fits refl (λ bus. refl))
-      (heard-then answers number mark Hearing.Status held start status [] small refl (run-nil answers _)))
+      (head-run answers number mode held Addressed.Copy (Stage.Hears Hearing.Status) 0x99 address (omega arith) fits refl (λ bus. refl))
+      (heard-then answers number mode Hearing.Status held start status [] small refl (run-nil answers _)))
 
   -- "Done exactly if ..": with the last bit of the password a Store, and AA is set
   pub copy-field : (bus : Bus) (field : ℕ) → field < 2 ^ 64 → copies held bus (eqb (answers (Question.MayCopy field (bus .address))) 1) ≡ true →
-      run answers (commanding number mark held (goTo bus (Stage.Gathers Guarded.Copying))) (bitsOf 64 field) ≡
-      lastly number mark 63 (listens (withAA held) (goTo bus Stage.Copied) Deed.Store) (bitsOf 64 field)
+      run answers (commanding number mode held (goTo bus (Stage.Gathers Guarded.Copying))) (bitsOf 64 field) ≡
+      lastly number mode 63 (listens (withAA held) (goTo bus Stage.Copied) Deed.Store) (bitsOf 64 field)
   unfolding judged copies asHeld
-  copy-field bus field fits done = field-gathered answers number mark held bus Guarded.Copying field fits ∙ rw done
+  copy-field bus field fits done = field-gathered answers number mode held bus Guarded.Copying field fits ∙ rw done
 
   -- else nothing
   pub copy-other : (bus : Bus) (field : ℕ) (bits : List Bool) → field < 2 ^ 64 → copies held bus (eqb (answers (Question.MayCopy field (bus .address))) 1) ≡ false →
-      run answers (commanding number mark held (goTo bus (Stage.Gathers Guarded.Copying))) (bitsOf 64 field ++ bits) ≡
-      quietly (commanding number mark held (goTo bus Stage.Over)) (bitsOf 64 field ++ bits)
+      run answers (commanding number mode held (goTo bus (Stage.Gathers Guarded.Copying))) (bitsOf 64 field ++ bits) ≡
+      quietly (commanding number mode held (goTo bus Stage.Over)) (bitsOf 64 field ++ bits)
   unfolding judged copies asHeld
   copy-other bus field bits fits undone =
       quiet-then answers _ (bitsOf 64 field) bits
-      (rw undone at (field-quiet answers number mark held bus Guarded.Copying field fits refl (rw undone)))
-      (run-over answers number mark held bus bits)
+      (rw undone at (field-quiet answers number mode held bus Guarded.Copying field fits refl (rw undone)))
+      (run-over answers number mode held bus bits)
 
 -- the three as they are held, up to the page's end, and a password that may copy there
 pub copies-right : (held : Held) {may : Bool} → held .ending ≡ 0x1F → held .pf ≡ false → may ≡ true →

@@ -10,76 +10,90 @@ use native.Mathlib.Omega.{arith}
 use borrow.Author.Tests.{lt-ltb, ne-eqb}
 use lib.ListN.{length, length-append}
 use Rattle.bits.specs.Bits.{bitOf, bitsOf}
-use Rattle.bits.specs.Bits.Laws.{length-bits, bits-from}
+use Rattle.bits.specs.Bits.Laws.{length-bits, no-bits, bits-from}
 use Rattle.bits.specs.Choose.{choice}
 use Rattle.select.specs.declared.Choosing.the-variants.{Silent, Matching, Giving}
+use Rattle.select.specs.declared.Mode.{Mode}
 use Rattle.select.specs.declared.Select.{Select}
-use Rattle.select.specs.Select.{keeps, resetSelect, romCommand, following, heardBit, slotAt, slotOf}
+use Rattle.select.specs.Select.{keeps, unmarked, listening, romCommand, following, heardBit, slotAt, slotOf}
 use Rattle.select.specs.Select.Laws.{following-more, heard-right-more}
 use Rattle.select.specs.Select.Mark.{known, among}
 use Rattle.select.specs.Runs.{Ran, run, stillChoosing, searchWith, searchAnswers}
-use Rattle.select.specs.Runs.Laws.{follows, run-append, run-silent, after-command, searching, told-wrong, run-match-other}
+use Rattle.select.specs.Runs.Laws.{follows, run-append, run-silent, after-command, searching, told-wrong, matchByte, match-lt, rom-match, run-match-other}
 use Rattle.select.specs.Runs.Through.{Lasts, choosing-while, choosing-append, choosing-through}
 
--- after a reset these slots leave the tag silent, with this Resume mark, and the line carries these bits; none was a memory command's
-abbrev pub Dropped : Select → ℕ → Bool → List Bool → Bool → List Bool → Type 0
-Dropped select number alarm bits mark line =
-    (stillChoosing (resetSelect select) number alarm bits ≡ true)
-    × (run (resetSelect select) number alarm bits ≡ record { select = keeps mark Silent; line = line })
+-- after a reset, with the first mode, these slots leave the tag silent, with the second, and the line carries these bits; none was a memory
+-- command's
+abbrev pub Dropped : Mode → ℕ → Bool → List Bool → Mode → List Bool → Type 0
+Dropped mode number alarm bits left line =
+    (stillChoosing (listening mode) number alarm bits ≡ true)
+    × (run (listening mode) number alarm bits ≡ record { select = keeps left Silent; line = line })
 
 -- and so whatever follows
-dropped-then : (select : Select) (number : ℕ) (alarm : Bool) (bits more : List Bool) {mark : Bool} {line : List Bool} →
-    Dropped select number alarm bits mark line → Dropped select number alarm (bits ++ more) mark (line ++ more)
+dropped-then : (mode : Mode) (number : ℕ) (alarm : Bool) (bits more : List Bool) {left : Mode} {line : List Bool} →
+    Dropped mode number alarm bits left line → Dropped mode number alarm (bits ++ more) left (line ++ more)
 unfolding Lasts
-dropped-then select number alarm bits more {mark} dropped = (
-  choosing-append (resetSelect select) number alarm bits more
-      ∙ rw (dropped .0, dropped .1, choosing-while (keeps mark Silent) number alarm more tt),
-  run-append (resetSelect select) number alarm bits more ∙ rw (dropped .1, run-silent mark number alarm more),
+dropped-then mode number alarm bits more {left} dropped = (
+  choosing-append (listening mode) number alarm bits more
+      ∙ rw (dropped .0, dropped .1, choosing-while (keeps left Silent) number alarm more tt),
+  run-append (listening mode) number alarm bits more ∙ rw (dropped .1, run-silent left number alarm more),
 )
 
 -- a command byte that the tag does not answer
-pub byte-dropped : (select : Select) (number byte : ℕ) (alarm : Bool) (bits : List Bool) {mark : Bool} → byte < 256 →
-    romCommand byte (select .mark) alarm ≡ keeps mark Silent →
-    Dropped select number alarm (bitsOf 8 byte ++ bits) mark (bitsOf 8 byte ++ bits)
+pub byte-dropped : (mode : Mode) (number byte : ℕ) (alarm : Bool) (bits : List Bool) {left : Mode} → byte < 256 →
+    romCommand byte mode alarm ≡ keeps left Silent →
+    Dropped mode number alarm (bitsOf 8 byte ++ bits) left (bitsOf 8 byte ++ bits)
 unfolding Lasts
-byte-dropped select number byte alarm bits {mark} fits e = (
-  choosing-through select number byte alarm bits fits (rw e tt),
-  after-command select number byte alarm bits fits ∙ rw (e, run-silent mark number alarm bits),
+byte-dropped mode number byte alarm bits {left} fits e = (
+  choosing-through mode number byte alarm bits fits (rw e tt),
+  after-command mode number byte alarm bits fits ∙ rw (e, run-silent left number alarm bits),
 )
 
--- none of the six commands
+-- none of the eight commands
 pub unknown-byte : (byte : ℕ) →
-    (byte ≢ 0x33) × (byte ≢ 0x55) × (byte ≢ 0xF0) × (byte ≢ 0xEC) × (byte ≢ 0xCC) × (byte ≢ 0xA5) → known byte ≡ false
+    (byte ≢ 0x33) × (byte ≢ 0x55) × (byte ≢ 0x69) × (byte ≢ 0xF0) × (byte ≢ 0xEC) × (byte ≢ 0xCC) × (byte ≢ 0x3C) × (byte ≢ 0xA5) →
+    known byte ≡ false
 unfolding known among
-unknown-byte byte (read, match, search, conditional, skip, resume) =
-    rw (ne-eqb byte 0x33 read, ne-eqb byte 0x55 match, ne-eqb byte 0xF0 search, ne-eqb byte 0xEC conditional, ne-eqb byte 0xCC skip, ne-eqb byte 0xA5 resume)
+unknown-byte byte (read, match, fast-match, search, conditional, skip, fast-skip, resume) =
+    rw (
+      ne-eqb byte 0x33 read,
+      ne-eqb byte 0x55 match,
+      ne-eqb byte 0x69 fast-match,
+      ne-eqb byte 0xF0 search,
+      ne-eqb byte 0xEC conditional,
+      ne-eqb byte 0xCC skip,
+      ne-eqb byte 0x3C fast-skip,
+      ne-eqb byte 0xA5 resume,
+    )
 
 -- ---- Match
 
 -- while it is told a number the tag listens
-match-listens : (number : ℕ) (alarm mark : Bool) (bits : List Bool) (at : ℕ) → at + length bits ≤ 64 →
-    run (keeps mark (Matching at)) number alarm bits .line ≡ bits
+match-listens : (number : ℕ) (alarm fast : Bool) (mode : Mode) (bits : List Bool) (at : ℕ) → at + length bits ≤ 64 →
+    run (keeps mode (Matching fast at)) number alarm bits .line ≡ bits
 unfolding run slotOf slotAt heardBit following
-match-listens number alarm mark [] at h = refl
-match-listens number alarm mark (bit ∷ []) at h = refl
-match-listens number alarm mark (bit ∷ b ∷ bs) at h =
+match-listens number alarm fast mode [] at h = refl
+match-listens number alarm fast mode (bit ∷ []) at h = refl
+match-listens number alarm fast mode (bit ∷ b ∷ bs) at h =
     ap (_∷_ bit)
     (rw (lt-ltb at 63 (omega arith))
     (choice (λ (next : Select). run next number alarm (b ∷ bs) .line ≡ b ∷ bs) (Bool·beq (bitOf number at) bit)
-    (match-listens number alarm mark (b ∷ bs) (at + 1) (omega arith))
-    (ap (λ (r : Ran). r .line) (run-silent mark number alarm (b ∷ bs)))))
+    (match-listens number alarm fast mode (b ∷ bs) (at + 1) (omega arith))
+    (ap (λ (r : Ran). r .line) (run-silent mode number alarm (b ∷ bs)))))
 
-pub match-dropped : (select : Select) (number : ℕ) (alarm : Bool) (bits more : List Bool) → length bits ≡ 64 → bits ≢ bitsOf 64 number →
-    let slots = bitsOf 8 0x55 ++ (bits ++ more) in Dropped select number alarm slots false slots
-unfolding romCommand Lasts
-match-dropped select number alarm bits more whole other =
-    let line : run (resetSelect select) number alarm (bitsOf 8 0x55 ++ bits) .line ≡ bitsOf 8 0x55 ++ bits =
-    ap (λ (r : Ran). r .line) (after-command select number 0x55 alarm bits (omega arith))
-    ∙ ap (_++_ (bitsOf 8 0x55)) (match-listens number alarm false bits 0 (omega arith)) in
-    let silent = run-match-other select number alarm bits whole other in
-    rw (← append-assoc (bitsOf 8 0x55) bits more)
-    (dropped-then select number alarm (bitsOf 8 0x55 ++ bits) more
-    (choosing-through select number 0x55 alarm bits (omega arith) (omega arith), λ i. record { select = silent i; line = line i }))
+pub match-dropped : (mode : Mode) (number : ℕ) (alarm fast : Bool) (bits more : List Bool) → length bits ≡ 64 → bits ≢ bitsOf 64 number →
+    let slots = bitsOf 8 (matchByte fast) ++ (bits ++ more) in Dropped mode number alarm slots (unmarked (mode .speed)) slots
+unfolding Lasts
+match-dropped mode number alarm fast bits more whole other =
+    let byte = matchByte fast in
+    let line : run (listening mode) number alarm (bitsOf 8 byte ++ bits) .line ≡ bitsOf 8 byte ++ bits =
+    ap (λ (r : Ran). r .line) (after-command mode number byte alarm bits (match-lt fast))
+    ∙ ap (_++_ (bitsOf 8 byte))
+    (rw (rom-match fast mode alarm) (match-listens number alarm fast (unmarked (mode .speed)) bits 0 (omega arith))) in
+    let silent = run-match-other mode number alarm fast bits whole other in
+    rw (← append-assoc (bitsOf 8 byte) bits more)
+    (dropped-then mode number alarm (bitsOf 8 byte ++ bits) more
+    (choosing-through mode number byte alarm bits (match-lt fast) (rw (rom-match fast mode alarm) (omega arith)), λ i. record { select = silent i; line = line i }))
 
 -- ---- Search
 
@@ -88,45 +102,42 @@ unfolding flatMap
 length-search [] = refl
 length-search (choice ∷ choices) = omega (arith, length-search choices)
 
-no-bits : (n : ℕ) → bitsOf 0 n ≡ []
-unfolding bitsOf
-no-bits n = refl
-
 -- the tag answers, and goes on, while the choices are its bits
-search-right : (number : ℕ) (alarm mark : Bool) (k at : ℕ) (rest : List Bool) → at + k ≤ 63 →
+search-right : (number : ℕ) (alarm : Bool) (mode : Mode) (k at : ℕ) (rest : List Bool) → at + k ≤ 63 →
     let right = bitsOf k (number / 2 ^ at) in
-    run (keeps mark (Giving at)) number alarm (searchWith right ++ rest) ≡
-    follows (searchAnswers right) (run (keeps mark (Giving (at + k))) number alarm rest)
+    run (keeps mode (Giving at)) number alarm (searchWith right ++ rest) ≡
+    follows (searchAnswers right) (run (keeps mode (Giving (at + k))) number alarm rest)
 unfolding flatMap searching
-search-right number alarm mark zero at rest h = let here : at + 0 ≡ at = omega arith in rw (no-bits (number / 2 ^ at), here)
-search-right number alarm mark (suc k) at rest h =
+search-right number alarm mode zero at rest h = let here : at + 0 ≡ at = omega arith in rw (no-bits (number / 2 ^ at), here)
+search-right number alarm mode (suc k) at rest h =
     let own = bitOf number at in
     let left = searchWith (bitsOf k (number / 2 ^ (at + 1))) ++ rest in
     let next : at + suc k ≡ at + 1 + k = omega arith in
     rw (bits-from k number at, next)
-    (searching .tells number alarm mark own at left
-    ∙ rw (heard-right-more number at (Giving (following at)) mark (omega arith), following-more at (omega arith))
-    (ap (follows (own ∷ not own ∷ own ∷ [])) (search-right number alarm mark k (at + 1) rest (omega arith))))
+    (searching .tells number alarm mode own at left
+    ∙ rw (heard-right-more number at (Giving (following at)) false mode (omega arith), following-more at (omega arith))
+    (ap (follows (own ∷ not own ∷ own ∷ [])) (search-right number alarm mode k (at + 1) rest (omega arith))))
 
 differs : (bit : Bool) → Bool·beq bit (not bit) ≡ false
 differs true = refl
 differs false = refl
 
-pub search-dropped : (select : Select) (number : ℕ) (alarm : Bool) (k : ℕ) (more : List Bool) → k ≤ 63 →
+pub search-dropped : (mode : Mode) (number : ℕ) (alarm : Bool) (k : ℕ) (more : List Bool) → k ≤ 63 →
     let own = bitOf number k in
     let right = bitsOf k number in
-    Dropped select number alarm (bitsOf 8 0xF0 ++ (searchWith right ++ (true ∷ true ∷ not own ∷ more))) false
+    Dropped mode number alarm (bitsOf 8 0xF0 ++ (searchWith right ++ (true ∷ true ∷ not own ∷ more))) (unmarked (mode .speed))
     (bitsOf 8 0xF0 ++ (searchAnswers right ++ (own ∷ not own ∷ not own ∷ more)))
 unfolding romCommand Lasts searching
-search-dropped select number alarm k more low =
+search-dropped mode number alarm k more low =
     let own = bitOf number k in
     let right = bitsOf k number in
     let slots = searchWith right ++ (true ∷ true ∷ not own ∷ []) in
     let line = searchAnswers right ++ (own ∷ not own ∷ not own ∷ []) in
     let here : 0 + k ≡ k = omega arith in
-    let answered : run (keeps false (Giving 0)) number alarm slots ≡ record { select = keeps false Silent; line = line } =
-    rw (div-one, here) at (search-right number alarm false k 0 (true ∷ true ∷ not own ∷ []) (omega arith))
-    ∙ ap (follows (searchAnswers right)) (told-wrong searching number alarm false (not own) k [] (differs own)) in
+    let left = unmarked (mode .speed) in
+    let answered : run (keeps left (Giving 0)) number alarm slots ≡ record { select = keeps left Silent; line = line } =
+    rw (div-one, here) at (search-right number alarm left k 0 (true ∷ true ∷ not own ∷ []) (omega arith))
+    ∙ ap (follows (searchAnswers right)) (told-wrong searching number alarm left (not own) k [] (differs own)) in
     let long : length slots ≤ 192 =
     rw (length-append (searchWith right) (true ∷ true ∷ not own ∷ [])) (omega (arith, length-search right, length-bits k number)) in
     rw (
@@ -135,5 +146,5 @@ search-dropped select number alarm k more low =
       ← append-assoc (bitsOf 8 0xF0) slots more,
       ← append-assoc (bitsOf 8 0xF0) line more,
     )
-    (dropped-then select number alarm (bitsOf 8 0xF0 ++ slots) more {line = bitsOf 8 0xF0 ++ line}
-    (choosing-through select number 0xF0 alarm slots (omega arith) (omega (arith, long)), after-command select number 0xF0 alarm slots (omega arith) ∙ rw answered))
+    (dropped-then mode number alarm (bitsOf 8 0xF0 ++ slots) more {line = bitsOf 8 0xF0 ++ line}
+    (choosing-through mode number 0xF0 alarm slots (omega arith) (omega (arith, long)), after-command mode number 0xF0 alarm slots (omega arith) ∙ rw answered))

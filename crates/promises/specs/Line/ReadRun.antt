@@ -29,6 +29,7 @@ use Rattle.memory.specs.Hear.{commandStage, addressHeard}
 use Rattle.field.specs.Field.{afterReading, judged}
 use Rattle.memory.specs.Send.{firstByte, afterMemory, afterPage, afterCrc, sentWhole, sendAsks}
 use Rattle.memory.specs.Runs.Scratchpad.{overAt}
+use Rattle.select.specs.declared.Mode.{Mode}
 use Rattle.promises.specs.Line.Commands.{sent-then, head-run}
 
 -- 69h, TA1, TA2
@@ -44,7 +45,7 @@ sentWith address bytes =
 unfoldable pub pageSent : (ℕ → ℕ) → ℕ → List ℕ
 pageSent byte address = sentWith address (bytesFrom byte address (32 - address % 32))
 
-module _ (answers : Question → ℕ) (number : ℕ) (mark : Bool) (held : Held) where
+module _ (answers : Question → ℕ) (number : ℕ) (mode : Mode) (held : Held) where
   -- what the image answers for an address
   abbrev byteAt : ℕ → ℕ
   byteAt address = answers (Question.Byte address)
@@ -58,46 +59,46 @@ module _ (answers : Question → ℕ) (number : ℕ) (mark : Bool) (held : Held)
 
   page-run : (bus : Bus) (n : ℕ) → bus .address % 32 + n ≡ 31 →
       let bytes = bytesFrom byteAt (bus .address) (suc n) in
-      run answers (commanding number mark held (goTo bus (Stage.Sends Sending.Memory))) (released (suc n * 8)) ≡
-      quietly (commanding number mark held (goTo (readOn bus n bytes) (Stage.Sends (Sending.CrcLow Next.Page)))) (slotsOf bytes)
+      run answers (commanding number mode held (goTo bus (Stage.Sends Sending.Memory))) (released (suc n * 8)) ≡
+      quietly (commanding number mode held (goTo (readOn bus n bytes) (Stage.Sends (Sending.CrcLow Next.Page)))) (slotsOf bytes)
   unfolding flatMap bytesFrom firstByte sentWhole afterMemory sendAsks crcRun
   page-run bus zero last =
       let same : bus .address + 0 ≡ bus .address = omega arith in
       rw same
-      (sent-then answers number mark Sending.Memory held bus (byteAt (bus .address)) [] refl
+      (sent-then answers number mode Sending.Memory held bus (byteAt (bus .address)) [] refl
       (rw (le-ltb (bus .address % 32) 31 (omega arith)) (run-nil answers _)))
   page-run bus (suc n) more =
       let byte = byteAt (bus .address) in
       let next = addressing (readOn bus 0 (byte ∷ [])) (bus .address + 1) in
       let there : bus .address + 1 + n ≡ bus .address + suc n = omega arith in
       rw (released-more (suc n), ← add-one (bus .address))
-      (sent-then answers number mark Sending.Memory held bus byte (released (suc n * 8)) refl
+      (sent-then answers number mode Sending.Memory held bus byte (released (suc n * 8)) refl
       (rw (lt-ltb (bus .address % 32) 31 (omega arith)) (rw there at (page-run next n (omega arith)))))
 
   -- and its CRC-16
   crc-run : (bus : Bus) →
-      run answers (commanding number mark held (goTo bus (Stage.Sends (Sending.CrcLow Next.Page)))) (released 16) ≡
-      quietly (commanding number mark held (afterPage (goTo bus (Stage.Sends (Sending.CrcHigh Next.Page))))) (slotsOf (sentLow (bus .crc) ∷ sentHigh (bus .crc) ∷ []))
+      run answers (commanding number mode held (goTo bus (Stage.Sends (Sending.CrcLow Next.Page)))) (released 16) ≡
+      quietly (commanding number mode held (afterPage (goTo bus (Stage.Sends (Sending.CrcHigh Next.Page))))) (slotsOf (sentLow (bus .crc) ∷ sentHigh (bus .crc) ∷ []))
   unfolding flatMap firstByte sentWhole afterCrc sendAsks
   crc-run bus =
-      sent-then answers number mark (Sending.CrcLow Next.Page) held bus (sentLow (bus .crc)) (released 8) refl
-      (sent-then answers number mark (Sending.CrcHigh Next.Page) held bus (sentHigh (bus .crc)) [] refl (run-nil answers _))
+      sent-then answers number mode (Sending.CrcLow Next.Page) held bus (sentLow (bus .crc)) (released 8) refl
+      (sent-then answers number mode (Sending.CrcHigh Next.Page) held bus (sentHigh (bus .crc)) [] refl (run-nil answers _))
 
   -- ---- the password
 
   may-read : (bus : Bus) (field : ℕ) {stage : Stage} → field < 2 ^ 64 →
       afterReading (bus .address) (eqb (answers (Question.MayRead field)) 1) ≡ stage →
-      run answers (commanding number mark held (goTo bus (Stage.Gathers Guarded.Reading))) (bitsOf 64 field) ≡
-      quietly (commanding number mark held (goTo bus stage)) (bitsOf 64 field)
+      run answers (commanding number mode held (goTo bus (Stage.Gathers Guarded.Reading))) (bitsOf 64 field) ≡
+      quietly (commanding number mode held (goTo bus stage)) (bitsOf 64 field)
   unfolding judged
-  may-read bus field fits leads = rw leads at (field-quiet answers number mark held bus Guarded.Reading field fits refl refl)
+  may-read bus field fits leads = rw leads at (field-quiet answers number mode held bus Guarded.Reading field fits refl refl)
 
   head : (address : ℕ) → address < 65536 →
-      run answers (chosen number mark held) (slotsOf (readHead address)) ≡
-      quietly (commanding number mark held (goTo (overAt (crc16Run 0 (readHead address)) address) (Stage.Gathers Guarded.Reading))) (slotsOf (readHead address))
+      run answers (chosen number mode held) (slotsOf (readHead address)) ≡
+      quietly (commanding number mode held (goTo (overAt (crc16Run 0 (readHead address)) address) (Stage.Gathers Guarded.Reading))) (slotsOf (readHead address))
   unfolding commandStage addressHeard
   head address fits =
-      head-run answers number mark held Addressed.Read (Stage.Gathers Guarded.Reading) 0x69 address (omega arith) fits refl (λ bus. refl)
+      head-run answers number mode held Addressed.Read (Stage.Gathers Guarded.Reading) 0x69 address (omega arith) fits refl (λ bus. refl)
 
 -- ---- the whole command
 
@@ -116,11 +117,11 @@ lastOf address = address + (31 - address % 32)
 abbrev pub readEnd : ℕ → List ℕ → Bus
 readEnd address bytes = pageEnd (crc16Run 0 (readHead address ++ bytes)) (lastOf address)
 
-module _ (answers : Question → ℕ) (number : ℕ) (mark : Bool) (held : Held) (address field : ℕ) (fits : field < 2 ^ 64) where
+module _ (answers : Question → ℕ) (number : ℕ) (mode : Mode) (held : Held) (address field : ℕ) (fits : field < 2 ^ 64) where
   pub read-run : address < 0x3000 → eqb (answers (Question.MayRead field)) 1 ≡ true →
       let byte : ℕ → ℕ = λ a. answers (Question.Byte a) in
-      run answers (chosen number mark held) (readSlots address field) ≡
-      quietly (commanding number mark held (readEnd address (bytesFrom byte address (32 - address % 32))))
+      run answers (chosen number mode held) (readSlots address field) ≡
+      quietly (commanding number mode held (readEnd address (bytesFrom byte address (32 - address % 32))))
       (slotsOf (readHead address) ++ (bitsOf 64 field ++ slotsOf (pageSent byte address)))
   unfolding crcRun pageSent sentWith afterReading
   read-run low may =
@@ -130,22 +131,22 @@ module _ (answers : Question → ℕ) (number : ℕ) (mark : Bool) (held : Held)
       let count : 32 - address % 32 ≡ suc n = omega arith in
       let times : (34 - address % 32) * 8 ≡ suc n * 8 + 16 = omega arith in
       rw (times, ← replicate-append-replicate (suc n * 8) 16 true, count, slots-append bytes _)
-      (quiet-then answers _ (slotsOf (readHead address)) _ (head answers number mark held address (omega arith))
-      (quiet-then answers _ (bitsOf 64 field) _ (may-read answers number mark held start field fits (rw (lt-ltb address 0x3000 low, may)))
-      (quiet-then answers _ (released (suc n * 8)) (released 16) (page-run answers number mark held start n (omega arith))
-      (crc-run answers number mark held (readOn answers number mark held start n bytes)))))
+      (quiet-then answers _ (slotsOf (readHead address)) _ (head answers number mode held address (omega arith))
+      (quiet-then answers _ (bitsOf 64 field) _ (may-read answers number mode held start field fits (rw (lt-ltb address 0x3000 low, may)))
+      (quiet-then answers _ (released (suc n * 8)) (released 16) (page-run answers number mode held start n (omega arith))
+      (crc-run answers number mode held (readOn answers number mode held start n bytes)))))
 
   -- with a password that may not, or past 2FFFh, the line is the master's from the command on
   pub unread-run : (bits : List Bool) → address < 65536 → (ltb address 0x3000 && eqb (answers (Question.MayRead field)) 1) ≡ false →
-      run answers (chosen number mark held) (slotsOf (readHead address) ++ (bitsOf 64 field ++ bits)) ≡
-      quietly (commanding number mark held (goTo (overAt (crc16Run 0 (readHead address)) address) Stage.Over))
+      run answers (chosen number mode held) (slotsOf (readHead address) ++ (bitsOf 64 field ++ bits)) ≡
+      quietly (commanding number mode held (goTo (overAt (crc16Run 0 (readHead address)) address) Stage.Over))
       (slotsOf (readHead address) ++ (bitsOf 64 field ++ bits))
   unfolding afterReading
   unread-run bits whole shut =
       let start = overAt (crc16Run 0 (readHead address)) address in
-      quiet-then answers _ (slotsOf (readHead address)) _ (head answers number mark held address whole)
-      (quiet-then answers _ (bitsOf 64 field) bits (may-read answers number mark held start field fits (rw shut))
-      (run-over answers number mark held start bits))
+      quiet-then answers _ (slotsOf (readHead address)) _ (head answers number mode held address whole)
+      (quiet-then answers _ (bitsOf 64 field) bits (may-read answers number mode held start field fits (rw shut))
+      (run-over answers number mode held start bits))
 
 -- ---- the pages after it
 
@@ -163,31 +164,31 @@ unfoldable pub lastCrc : (ℕ → ℕ) → ℕ → ℕ → ℕ → ℕ
 lastCrc byte crc page zero = crc
 lastCrc byte crc page (suc n) = lastCrc byte (crc16Run 0 (bytesFrom byte page 32)) (page + 32) n
 
-module _ (answers : Question → ℕ) (number : ℕ) (mark : Bool) (held : Held) where
+module _ (answers : Question → ℕ) (number : ℕ) (mode : Mode) (held : Held) where
   next-run : (crc last : ℕ) → last % 32 ≡ 31 → last < 0x2FFF →
-      let bytes = bytesFrom (byteAt answers number mark held) (last + 1) 32 in
-      run answers (commanding number mark held (pageEnd crc last)) (released (34 * 8)) ≡
-      quietly (commanding number mark held (pageEnd (crc16Run 0 bytes) (last + 32))) (slotsOf (nextSent bytes))
+      let bytes = bytesFrom (byteAt answers number mode held) (last + 1) 32 in
+      run answers (commanding number mode held (pageEnd crc last)) (released (34 * 8)) ≡
+      quietly (commanding number mode held (pageEnd (crc16Run 0 bytes) (last + 32))) (slotsOf (nextSent bytes))
   unfolding afterPage
   next-run crc last whole more =
       let start = overAt 0 (last + 1) in
-      let bytes = bytesFrom (byteAt answers number mark held) (last + 1) 32 in
+      let bytes = bytesFrom (byteAt answers number mode held) (last + 1) 32 in
       let there : last + 1 + 31 ≡ last + 32 = omega arith in
       rw (lt-ltb last 0x2FFF more, slots-append bytes _, ← there)
-      (quiet-then answers _ (released (32 * 8)) (released 16) (page-run answers number mark held start 31 (omega arith))
-      (crc-run answers number mark held (readOn answers number mark held start 31 bytes)))
+      (quiet-then answers _ (released (32 * 8)) (released 16) (page-run answers number mode held start 31 (omega arith))
+      (crc-run answers number mode held (readOn answers number mode held start 31 bytes)))
 
   -- "then each next page and CRC-16 over its data alone, up to 2FFFh"
   pub pages-run : (n crc last : ℕ) → last % 32 ≡ 31 → last + 32 * n < 0x3000 →
       let byte : ℕ → ℕ = λ a. answers (Question.Byte a) in
-      run answers (commanding number mark held (pageEnd crc last)) (released (n * 272)) ≡
-      quietly (commanding number mark held (pageEnd (lastCrc byte crc (last + 1) n) (last + 32 * n))) (slotsOf (pagesSent byte (last + 1) n))
+      run answers (commanding number mode held (pageEnd crc last)) (released (n * 272)) ≡
+      quietly (commanding number mode held (pageEnd (lastCrc byte crc (last + 1) n) (last + 32 * n))) (slotsOf (pagesSent byte (last + 1) n))
   unfolding pagesSent lastCrc flatMap
   pages-run zero crc last whole low =
       let same : last + 32 * 0 ≡ last = omega arith in
       rw same (run-nil answers _)
   pages-run (suc n) crc last whole low =
-      let bytes = bytesFrom (byteAt answers number mark held) (last + 1) 32 in
+      let bytes = bytesFrom (byteAt answers number mode held) (last + 1) 32 in
       let times : suc n * 272 ≡ 272 + n * 272 = omega arith in
       let page : last + 1 + 32 ≡ last + 32 + 1 = omega arith in
       let end : last + 32 * suc n ≡ last + 32 + 32 * n = omega arith in

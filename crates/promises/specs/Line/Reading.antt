@@ -12,16 +12,16 @@ use Rattle.bits.specs.Bits.Laws.{digit-one}
 use Rattle.crc.specs.Crc.{crc16Run}
 use Rattle.dump.specs.Dump.{dumpOf, dump-line}
 use Rattle.dump.specs.Lines.{pageOf, pageCrc, lineBytes, lineOf, lineAt, bytesFrom}
-use Rattle.exchange.specs.Runs.{Way, waySlots, wayLine, wayMark}
+use Rattle.exchange.specs.Runs.{Way, waySlots, wayLine, wayMode}
 use Rattle.exchange.specs.Runs.Laws.{quiet-then}
 use Rattle.hex.specs.Hex.{hexText}
 use Rattle.image.specs.Answers.{mayRead}
 use Rattle.image.specs.Sent.{sentAt}
 use Rattle.bus.specs.declared.Question.{Question}
 use Rattle.event.specs.Event.{answerTo}
-use Rattle.promises.specs.Runs.{State, Event, run}
+use Rattle.promises.specs.Runs.{State, Event, run, Kept}
 use Rattle.promises.specs.Runs.Laws.{Sound}
-use Rattle.promises.specs.Line.Slots.{numberOf, session, greeting, session-way, session-quiet, answersOf, Kept, kept-by}
+use Rattle.promises.specs.Line.Slots.{numberOf, session, greeting, session-way, session-quiet, answersOf, kept-by}
 use Rattle.promises.specs.Line.ReadRun.{readHead, readSlots, pageSent, sentWith, lastOf, pagesSent, read-run, pages-run, unread-run}
 use Rattle.promises.specs.Line.Pages.{page-low, page-aligned}
 
@@ -47,7 +47,7 @@ module _ (s : State) (sound : Sound s) (way : Way) (address field : ℕ) (fits :
   reads-memory low may =
       let x = s .tag .exchange in
       let answer : eqb (answersOf s (Question.MayRead field)) 1 ≡ true = rw may in
-      kept-by s (session-quiet s sound way (readSlots address field) (read-run (answersOf s) (x .number) (wayMark way) (x .held) address field fits low answer))
+      kept-by s (session-quiet s sound way (readSlots address field) (read-run (answersOf s) (x .number) (wayMode way false) (x .held) address field fits low answer))
 
   -- and of n pages more their bytes, each with the CRC-16 over its data alone, up to 2FFFh
   pub reads-pages : (n : ℕ) → lastOf address + 32 * n < 0x3000 → mayRead (s .image) field ≡ true →
@@ -64,8 +64,8 @@ module _ (s : State) (sound : Sound s) (way : Way) (address field : ℕ) (fits :
       kept-by s
       (session-quiet s sound way (readSlots address field ++ released (n * 272))
       (quiet-then (answersOf s) _ (readSlots address field) (released (n * 272))
-      (read-run (answersOf s) (x .number) (wayMark way) (x .held) address field fits (omega arith) answer)
-      (pages-run (answersOf s) (x .number) (wayMark way) (x .held) n (crc16Run 0 (readHead address ++ bytes)) (lastOf address) (omega arith) low)))
+      (read-run (answersOf s) (x .number) (wayMode way false) (x .held) address field fits (omega arith) answer)
+      (pages-run (answersOf s) (x .number) (wayMode way false) (x .held) n (crc16Run 0 (readHead address ++ bytes)) (lastOf address) (omega arith) low)))
 
   -- with any other password, or past 2FFFh, nothing but 1s: the line is the master's, whatever follows
   pub reads-nothing : (bits : List Bool) → address < 65536 → (ltb address 0x3000 && mayRead (s .image) field) ≡ false →
@@ -75,7 +75,7 @@ module _ (s : State) (sound : Sound s) (way : Way) (address field : ℕ) (fits :
   reads-nothing bits whole shut =
       let x = s .tag .exchange in
       let answer : (ltb address 0x3000 && eqb (answersOf s (Question.MayRead field)) 1) ≡ false = rw (digit-one (mayRead (s .image) field)) shut in
-      kept-by s (session-quiet s sound way _ (unread-run (answersOf s) (x .number) (wayMark way) (x .held) address field fits bits whole answer))
+      kept-by s (session-quiet s sound way _ (unread-run (answersOf s) (x .number) (wayMode way false) (x .held) address field fits bits whole answer))
 
 -- a page of the dump, read with no tick in between: its line is the page's two bytes and all that the tag sent
 pub reads-dump-line : (s : State) (sound : Sound s) (way : Way) (line field : ℕ) → line < 258 → field < 2 ^ 64 → mayRead (s .image) field ≡ true →

@@ -8,15 +8,17 @@ use lib.ListN.{replicate}
 use Rattle.exchange.specs.declared.Exchange.{Exchange}
 use Rattle.exchange.specs.Exchange.{afterReset as exchange-reset, slotOf, asks}
 use Rattle.exchange.specs.Runs as exchange
-use Rattle.exchange.specs.Runs.{Way, waySlots, wayLine, wayMark}
+use Rattle.exchange.specs.Runs.{Way, waySlots, wayLine, wayMode}
 use Rattle.exchange.specs.Runs.Laws.{quiet-then}
 use Rattle.exchange.specs.Runs.Choosing.{run-way}
 use Rattle.bus.specs.declared.Bus.{Bus}
 use Rattle.bus.specs.declared.Deed.{Deed}
 use Rattle.bus.specs.declared.Question.{Question}
+use Rattle.select.specs.declared.Mode.{Mode}
+use Rattle.select.specs.Select.{standard}
 use Rattle.event.specs.Event.{answerTo, performed, performedCounters, slotted, resetTag}
 use Rattle.record.specs.Record.{Outcome}
-use Rattle.promises.specs.Runs.{State, Event, leaves, happens, after, lineBit, Ran, run}
+use Rattle.promises.specs.Runs.{State, Event, leaves, happens, after, lineBit, Ran, run, Kept}
 use Rattle.promises.specs.Runs.Laws.{Sound, sound-after, slot-happens, reset-happens}
 
 -- the slots with these bits of the master, one after the other
@@ -151,7 +153,7 @@ abbrev pub numberOf : State → ℕ
 numberOf s = s .tag .exchange .number
 
 abbrev pub chosenBy : Way → State → Exchange
-chosenBy way s = exchange.chosen (numberOf s) (wayMark way) (s .tag .exchange .held)
+chosenBy way s = exchange.chosen (numberOf s) (wayMode way false) (s .tag .exchange .held)
 
 -- a reset, a ROM command to this tag, and these slots
 abbrev pub session : State → Way → List Bool → List Event
@@ -167,7 +169,7 @@ module _ (s : State) (sound : Sound s) (way : Way) where
       record { line = greeting s way; state = withExchange s (chosenBy way s) }
   session-way =
       run-reset s (waySlots way (numberOf s)) sound
-      (slots-quiet (afterReset s) (waySlots way (numberOf s)) (run-way (answersOf s) (s .tag .exchange) way))
+      (slots-quiet (afterReset s) (waySlots way (numberOf s)) (run-way (answersOf s) (s .tag .exchange) (standard (s .tag .exchange .select .mode)) way))
 
   chosen-quiet : (bits : List Bool) {x : Exchange} {line : List Bool} →
       exchange.run (answersOf s) (chosenBy way s) bits ≡ exchange.quietly x line →
@@ -175,7 +177,7 @@ module _ (s : State) (sound : Sound s) (way : Way) where
   chosen-quiet bits e =
       let x = s .tag .exchange in
       slots-quiet (afterReset s) (waySlots way (numberOf s) ++ bits)
-      (quiet-then (answersOf s) (exchange-reset x) (waySlots way (x .number)) bits (run-way (answersOf s) x way) e)
+      (quiet-then (answersOf s) (exchange-reset x) (waySlots way (x .number)) bits (run-way (answersOf s) x (standard (x .select .mode)) way) e)
 
   -- what does nothing after it
   pub session-quiet : (bits : List Bool) {x : Exchange} {line : List Bool} →
@@ -195,16 +197,8 @@ module _ (s : State) (sound : Sound s) (way : Way) where
 
 -- ---- what a session leaves that does nothing
 
--- nothing has changed but the bus state and the Resume mark
-pub record Kept (before after : State) : Type 0 where
-  pub image : after .image ≡ before .image
-  pub code : after .tag .code ≡ before .tag .code
-  pub counters : after .tag .counters ≡ before .tag .counters
-  pub number : numberOf after ≡ numberOf before
-  pub held : after .tag .exchange .held ≡ before .tag .exchange .held
-
 -- these line bits, and nothing has changed
-pub kept-by : (s : State) {mark : Bool} {bus : Bus} {line : List Bool} {ran : Ran} →
-    ran ≡ record { line = line; state = withExchange s (exchange.commanding (numberOf s) mark (s .tag .exchange .held) bus) } →
+pub kept-by : (s : State) {mode : Mode} {bus : Bus} {line : List Bool} {ran : Ran} →
+    ran ≡ record { line = line; state = withExchange s (exchange.commanding (numberOf s) mode (s .tag .exchange .held) bus) } →
     (ran .line ≡ line) × Kept s (ran .state)
 kept-by s e = rw e (refl, record { image = refl; code = refl; counters = refl; number = refl; held = refl })

@@ -14,7 +14,7 @@ use lib.ListN.{length, getD}
 use Rattle.bits.specs.Bits.{bitsOf, slotsOf, released}
 use Rattle.crc.specs.Crc.{crc16Run, sentLow, sentHigh}
 use Rattle.dump.specs.Lines.{bytesFrom}
-use Rattle.exchange.specs.Runs.{commanding, Way, wayMark}
+use Rattle.exchange.specs.Runs.{commanding, Way, wayMode}
 use Rattle.exchange.specs.Runs.Laws.{quiet-then, run-quiet}
 use Rattle.exchange.specs.Runs.Commands.{zeroOnes, run-copied}
 use Rattle.image.specs.Answers.{mayCopy}
@@ -31,9 +31,9 @@ use Rattle.bus.specs.Bus.{clearBus, goTo, statusByte}
 use Rattle.field.specs.Field.{copies, withAA}
 use Rattle.memory.specs.Runs.Scratchpad.{overAt, padBytes, read-scratchpad, writeHead, writtenTo, write-scratchpad, rest-of-page}
 use Rattle.event.specs.Event.{answerTo, performed, performedCounters}
-use Rattle.promises.specs.Runs.{State, run, Reached}
+use Rattle.promises.specs.Runs.{State, run, Kept, Reached}
 use Rattle.promises.specs.Runs.Laws.{Sound, sound-run, reached-sound}
-use Rattle.promises.specs.Line.Slots.{numberOf, session, greeting, session-quiet, session-then, slots-quiet, slots-lastly, slots-then, answersOf, withExchange, afterDeed, Kept, kept-by}
+use Rattle.promises.specs.Line.Slots.{numberOf, session, greeting, session-quiet, session-then, slots-quiet, slots-lastly, slots-then, answersOf, withExchange, afterDeed, kept-by}
 use Rattle.promises.specs.Line.ReadRun.{readHead, readSlots, pageSent, sentWith}
 use Rattle.promises.specs.Line.Reading.{reads-memory}
 use Rattle.promises.specs.Line.Back.{bytesBack, bytes-back}
@@ -56,12 +56,12 @@ pub writes-scratchpad : (s : State) (sound : Sound s) (way : Way) (address : ℕ
     run s (session s way (writeSlots address bytes)) ≡
     record {
       line = greeting s way ++ (slotsOf sent ++ slotsOf (sentLow crc ∷ sentHigh crc ∷ []));
-      state = withExchange s (commanding (numberOf s) (wayMark way) (writtenTo (s .tag .exchange .held) address bytes) (overAt crc address));
+      state = withExchange s (commanding (numberOf s) (wayMode way false) (writtenTo (s .tag .exchange .held) address bytes) (overAt crc address));
     }
 writes-scratchpad s sound way address bytes long fits end small =
     let held = s .tag .exchange .held in
     session-quiet s sound way (writeSlots address bytes)
-    (run-quiet (answersOf s) (numberOf s) (wayMark way) held (clearBus (Stage.Hears Hearing.Command)) (writeSlots address bytes)
+    (run-quiet (answersOf s) (numberOf s) (wayMode way false) held (clearBus (Stage.Hears Hearing.Command)) (writeSlots address bytes)
     (write-scratchpad (answersOf s) held address bytes long fits end small))
 
 -- Read Scratchpad shows TA1, TA2, E/S and the data from the offset on, with their CRC-16
@@ -73,7 +73,7 @@ pub reads-scratchpad : (s : State) (sound : Sound s) (way : Way) → length (s .
 reads-scratchpad s sound way long =
     let held = s .tag .exchange .held in
     kept-by s (session-quiet s sound way _
-    (run-quiet (answersOf s) (numberOf s) (wayMark way) held (clearBus (Stage.Hears Hearing.Command)) _ (read-scratchpad (answersOf s) held long)))
+    (run-quiet (answersOf s) (numberOf s) (wayMode way false) held (clearBus (Stage.Hears Hearing.Command)) _ (read-scratchpad (answersOf s) held long)))
 
 -- a Write Scratchpad that ends before the page's last byte is whole, after its address, after whole bytes or within the next
 -- (`bits`, of which there may be none): TA, E/S and the whole bytes are held as document 01 says (`writtenPart`), PF is 1 without data
@@ -88,7 +88,7 @@ pub writes-part : (s : State) (sound : Sound s) (way : Way) (address : ℕ) (byt
 writes-part s sound way address bytes bits long fits inside small few =
     let held = s .tag .exchange .held in
     rw (session-quiet s sound way (partSlots address bytes bits)
-    (part-run (answersOf s) (numberOf s) (wayMark way) held address bytes bits long fits inside small few .1))
+    (part-run (answersOf s) (numberOf s) (wayMode way false) held address bytes bits long fits inside small few .1))
     (refl, refl, refl, refl)
 
 -- ---- Copy
@@ -110,17 +110,17 @@ unfolding answerTo performed performedCounters
 copies-held s sound way field n fits low full whole may =
     let held = s .tag .exchange .held in
     let number = numberOf s in
-    let mark = wayMark way in
+    let mode = wayMode way false in
     let bus = copyBus (held .ta) (statusByte held) in
     let answer : eqb (answersOf s (Question.MayCopy field (held .ta))) 1 ≡ true = rw may in
-    let headed = withExchange s (commanding number mark held (goTo bus (Stage.Gathers Guarded.Copying))) in
-    let done = afterDeed Deed.Store headed (commanding number mark (withAA held) (goTo bus Stage.Copied)) in
+    let headed = withExchange s (commanding number mode held (goTo bus (Stage.Gathers Guarded.Copying))) in
+    let done = afterDeed Deed.Store headed (commanding number mode (withAA held) (goTo bus Stage.Copied)) in
     rw (session-then s sound way (slotsOf (copyHead (held .ta) (statusByte held))) (bitsOf 64 field ++ released (n * 2))
-    (copy-head (answersOf s) number mark held (held .ta) (statusByte held) low (status-lt held))
+    (copy-head (answersOf s) number mode held (held .ta) (statusByte held) low (status-lt held))
     (slots-then headed (bitsOf 64 field) (released (n * 2))
     (slots-lastly headed (bitsOf 64 field) 63 Deed.Store
-    (copy-field (answersOf s) number mark held bus field fits (copies-right held full whole answer)))
-    (slots-quiet done (released (n * 2)) (run-copied (answersOf done) number mark (withAA held) bus n))))
+    (copy-field (answersOf s) number mode held bus field fits (copies-right held full whole answer)))
+    (slots-quiet done (released (n * 2)) (run-copied (answersOf done) number mode (withAA held) bus n))))
     (refl, refl, refl, refl)
 
 -- Copy with the address and E/S as held, up to the page's end, to an address that may be written now and with a password that passes:
@@ -149,10 +149,10 @@ module _ (s : State) (sound : Sound s) (way : Way) (address status field : ℕ) 
   copies-undone undone =
       let held = s .tag .exchange .held in
       let number = numberOf s in
-      let mark = wayMark way in
+      let mode = wayMode way false in
       kept-by s (session-quiet s sound way _
-      (quiet-then (answersOf s) _ (slotsOf (copyHead address status)) _ (copy-head (answersOf s) number mark held address status fits small)
-      (copy-other (answersOf s) number mark held (copyBus address status) field bits whole undone)))
+      (quiet-then (answersOf s) _ (slotsOf (copyHead address status)) _ (copy-head (answersOf s) number mode held address status fits small)
+      (copy-other (answersOf s) number mode held (copyBus address status) field bits whole undone)))
 
   -- with a password that does not pass, or an address that may not be written now
   pub copies-nothing : Barred (s .image) field address → Undone
@@ -187,7 +187,7 @@ unfolding statusByte storedPage
 writes-and-copies s sound way again address field n bytes long fits end small whole may =
     let held = writtenTo (s .tag .exchange .held) address bytes in
     let crc = crc16Run 0 (writeHead address ++ bytes) in
-    let written = withExchange s (commanding (numberOf s) (wayMark way) held (overAt crc address)) in
+    let written = withExchange s (commanding (numberOf s) (wayMode way false) held (overAt crc address)) in
     let wrote = writes-scratchpad s sound way address bytes long fits end small in
     let still : Sound written = rw wrote at (sound-run (session s way (writeSlots address bytes)) sound) in
     let copied = copies-held written still again field n whole fits refl refl may in

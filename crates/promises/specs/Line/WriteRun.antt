@@ -27,6 +27,7 @@ use Rattle.memory.specs.Memory.Laws.{asks-at, heard-more}
 use Rattle.memory.specs.Runs as memory
 use Rattle.memory.specs.Runs.Laws.{run-cons}
 use Rattle.memory.specs.Runs.Scratchpad.{overAt, writeHead}
+use Rattle.select.specs.declared.Mode.{Mode}
 use Rattle.promises.specs.Line.Commands.{heard-then}
 use Rattle.promises.specs.Line.CopyRun.{Unlike}
 
@@ -111,50 +112,50 @@ part-held held address (d ∷ ds) bits long inside =
     by [] = refl
     by (b ∷ bs) = refl
 
-module _ (answers : Question → ℕ) (number : ℕ) (mark : Bool) where
+module _ (answers : Question → ℕ) (number : ℕ) (mode : Mode) where
   -- the tag that waits for a data byte, with this register of the CRC-16
   abbrev waiting : ℕ → ℕ → ℕ → Bus
   waiting crc address place = goTo (overAt crc address) (Stage.Hears (Hearing.Data place))
 
   whole-run : (held : Held) (crc address place : ℕ) (bytes : List ℕ) → place + length bytes < 32 → ((i : ℕ) → getD bytes i 0 < 256) →
-      run answers (commanding number mark held (waiting crc address place)) (slotsOf bytes) ≡
-      quietly (commanding number mark (storedAll held place bytes) (waiting (crc16Run crc bytes) address (place + length bytes))) (slotsOf bytes)
+      run answers (commanding number mode held (waiting crc address place)) (slotsOf bytes) ≡
+      quietly (commanding number mode (storedAll held place bytes) (waiting (crc16Run crc bytes) address (place + length bytes))) (slotsOf bytes)
   unfolding flatMap heardWhole crcRun storedAll afterData
   whole-run held crc address place [] n small = let none : place + 0 ≡ place = omega arith in rw none (run-nil answers _)
   whole-run held crc address place (d ∷ ds) n small =
       let count : place + suc (length ds) ≡ place + 1 + length ds = omega arith in
-      heard-then answers number mark (Hearing.Data place) held (overAt crc address) d (slotsOf ds) (small 0) refl
+      heard-then answers number mode (Hearing.Data place) held (overAt crc address) d (slotsOf ds) (small 0) refl
       (rw (lt-ltb place 31 (omega arith), count)
       (whole-run (stored held place d) (crc16Run crc (d ∷ [])) address (place + 1) ds (omega arith) (λ i. small (suc i))))
 
   -- 0Fh, TA1, TA2
   address-run : (held : Held) (address : ℕ) → address < 65536 →
-      run answers (chosen number mark held) (slotsOf (writeHead address)) ≡
-      quietly (commanding number mark (loaded held address) (waiting (crc16Run 0 (writeHead address)) address (address % 32))) (slotsOf (writeHead address))
+      run answers (chosen number mode held) (slotsOf (writeHead address)) ≡
+      quietly (commanding number mode (loaded held address) (waiting (crc16Run 0 (writeHead address)) address (address % 32))) (slotsOf (writeHead address))
   unfolding flatMap heardWhole commandStage addressHeard crcRun
   address-run held address fits =
       let low = address % 256 in
       let high = address / 256 in
       let whole : low % 256 + 256 * high ≡ address = omega arith in
-      heard-then answers number mark Hearing.Command held (clearBus Stage.Over) 0x0F _ (omega arith) refl
-      (heard-then answers number mark (Hearing.Low Addressed.Write) held (overAt (crc16Run 0 (0x0F ∷ [])) 0) low _ (omega arith) refl
-      (heard-then answers number mark (Hearing.High Addressed.Write) held (overAt (crc16Run 0 (0x0F ∷ low ∷ [])) low) high [] (omega arith) refl
+      heard-then answers number mode Hearing.Command held (clearBus Stage.Over) 0x0F _ (omega arith) refl
+      (heard-then answers number mode (Hearing.Low Addressed.Write) held (overAt (crc16Run 0 (0x0F ∷ [])) 0) low _ (omega arith) refl
+      (heard-then answers number mode (Hearing.High Addressed.Write) held (overAt (crc16Run 0 (0x0F ∷ low ∷ [])) low) high [] (omega arith) refl
       (rw whole (run-nil answers _))))
 
   -- bits of the next byte
   begun-run : (held : Held) (crc address place : ℕ) (bits : List Bool) → length bits < 8 →
-      (bus : Bus) × (run answers (commanding number mark held (waiting crc address place)) bits ≡ quietly (commanding number mark (begunBy bits held) bus) bits)
+      (bus : Bus) × (run answers (commanding number mode held (waiting crc address place)) bits ≡ quietly (commanding number mode (begunBy bits held) bus) bits)
   unfolding begunBy
   begun-run held crc address place [] few = (_, run-nil answers _)
   begun-run held crc address place (b ∷ bs) few =
       let bus = waiting crc address place in
-      (_, run-quiet answers number mark held bus (b ∷ bs) (broken-run answers place held bus b bs refl (omega arith)))
+      (_, run-quiet answers number mode held bus (b ∷ bs) (broken-run answers place held bus b bs refl (omega arith)))
 
   -- all of it
   pub part-run : (held : Held) (address : ℕ) (bytes : List ℕ) (bits : List Bool) → length (held .pad) ≡ 32 → address < 65536 →
       address % 32 + length bytes < 32 → ((i : ℕ) → getD bytes i 0 < 256) → length bits < 8 →
-      (bus : Bus) × (run answers (chosen number mark held) (partSlots address bytes bits) ≡
-      quietly (commanding number mark (writtenPart held address bytes bits) bus) (partSlots address bytes bits))
+      (bus : Bus) × (run answers (chosen number mode held) (partSlots address bytes bits) ≡
+      quietly (commanding number mode (writtenPart held address bytes bits) bus) (partSlots address bytes bits))
   part-run held address bytes bits long fits inside small few =
       let offset = address % 32 in
       let start = crc16Run 0 (writeHead address) in

@@ -44,7 +44,7 @@ keeps-ranges tag = refl
 
 pub own-number : (code reading : ℕ) → answerNumber (eventAnswer code reading) ≡ ownNumber code reading
 unfolding eventAnswer ownNumber
-own-number code reading = numbered (ltb 3 code) EventCode _ refl (numbered (eqb code 3 && ltb 2047 reading) Reading Accepted refl refl)
+own-number code reading = numbered (ltb 4 code) EventCode _ refl (numbered (eqb code 3 && ltb 2047 reading) Reading Accepted refl refl)
 
 pub event-number : (image : List ℕ) (tag : Tag) (code reading : ℕ) →
     answerNumber (step image tag code reading .answered .answer) ≡ eventNumber image tag code reading

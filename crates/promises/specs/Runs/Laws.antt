@@ -11,13 +11,13 @@ use borrow.Author.Tests.{lt-ltb, le-ltb}
 use lib.ListN.{length}
 use Rattle.answer.specs.declared.Answer.{Answer}
 use Rattle.bits.specs.Bits.{digit}
-use Rattle.exchange.specs.Exchange.Laws.{number-kept}
+use Rattle.exchange.specs.Exchange.Laws.{number-kept, short-number, short-held}
 use Rattle.record.specs.Record.{tagInRange, refusal}
-use Rattle.event.specs.Event.{slotted, resetTag, tickTag}
+use Rattle.event.specs.Event.{slotted, resetTag, shortTag, tickTag}
 use Rattle.tag.specs.Tag.{newTag, eventOf}
 use Rattle.record.specs.Record.Laws.{new-in-range}
 use Rattle.tag.specs.Tag.Laws.{new-good, new-made, length-new, length-step, step-in-range, step-taken}
-use Rattle.promises.specs.Runs.{State, Event, codeOf, readingOf, leaves, happens, after, lineBit, Accepts, Ran, run, Reached, Always, Together, OnSlots}
+use Rattle.promises.specs.Runs.{State, Event, codeOf, readingOf, leaves, happens, after, lineBit, Accepts, Ran, run, Kept, Reached, Always, Together, OnSlots}
 
 -- ---- an invariant of one event is one of every run
 
@@ -70,12 +70,14 @@ pub all-slots : (P : State → Bool → Type 0) (s : State) (e : Event) → ((bi
 all-slots P s (Event.slot bit) f = f bit
 all-slots P s Event.reset f = tt
 all-slots P s (Event.tick reading) f = tt
+all-slots P s Event.short f = tt
 
 pub on-slots : {P Q : State → Bool → Type 0} → ((s : State) (bit : Bool) → P s bit → Q s bit) →
     (s : State) (e : Event) → OnSlots P s e → OnSlots Q s e
 on-slots f s (Event.slot bit) p = f s bit p
 on-slots f s Event.reset p = tt
 on-slots f s (Event.tick reading) p = tt
+on-slots f s Event.short p = tt
 
 pub always-append : (P : State → Event → Type 0) (s : State) (es fs : List Event) →
     Always P s es → Always P (run s es .state) fs → Always P s (es ++ fs)
@@ -158,6 +160,10 @@ module _ {s : State} (sound : Sound s) where
   unfolding eventOf
   reset-happens = step-taken (s .image) (s .tag) 2 0 (sound .size) (sound .ranges)
 
+  pub short-happens : happens s Event.short ≡ shortTag (s .image) (s .tag)
+  unfolding eventOf
+  short-happens = step-taken (s .image) (s .tag) 4 0 (sound .size) (sound .ranges)
+
   pub tick-happens : (reading : ℕ) → reading ≤ 2047 → happens s (Event.tick reading) ≡ tickTag (s .image) (s .tag) reading
   unfolding eventOf
   tick-happens reading small =
@@ -174,12 +180,31 @@ module _ {s : State} (sound : Sound s) where
   unfolding after
   tick-passed reading high = rw (tick-refused reading high)
 
+-- ---- a reset, long or short, leaves all but the bus state
+
+pub reset-keeps : {s : State} → Sound s → Kept s (after s Event.reset)
+unfolding after resetTag
+reset-keeps sound = rw (reset-happens sound) (record { image = refl; code = refl; counters = refl; number = refl; held = refl })
+
+pub short-keeps : {s : State} → Sound s → Kept s (after s Event.short)
+unfolding after shortTag
+short-keeps {s} sound =
+    rw (short-happens sound)
+    (record {
+      image = refl;
+      code = refl;
+      counters = refl;
+      number = short-number (s .tag .exchange);
+      held = short-held (s .tag .exchange);
+    })
+
 -- ---- no event changes the number
 
 pub number-after : {s : State} (e : Event) → Sound s → after s e .tag .exchange .number ≡ s .tag .exchange .number
-unfolding after slotted resetTag tickTag
+unfolding after slotted tickTag
 number-after {s} (Event.slot bit) sound = rw (slot-happens sound bit) (number-kept (s .tag .exchange) bit _)
-number-after Event.reset sound = rw (reset-happens sound)
+number-after Event.reset sound = reset-keeps sound .number
+number-after Event.short sound = short-keeps sound .number
 number-after (Event.tick reading) sound =
     dite (decLe reading 2047) (λ small. rw (tick-happens sound reading small))
     (λ high. rw (tick-refused sound reading (omega arith)))
@@ -192,9 +217,10 @@ number-run (e ∷ es) sound = number-run es (sound-after e sound) ∙ number-aft
 -- nor the code
 
 pub code-after : {s : State} (e : Event) → Sound s → after s e .tag .code ≡ s .tag .code
-unfolding after slotted resetTag tickTag
+unfolding after slotted tickTag
 code-after (Event.slot bit) sound = rw (slot-happens sound bit)
-code-after Event.reset sound = rw (reset-happens sound)
+code-after Event.reset sound = reset-keeps sound .code
+code-after Event.short sound = short-keeps sound .code
 code-after (Event.tick reading) sound =
     dite (decLe reading 2047) (λ small. rw (tick-happens sound reading small))
     (λ high. rw (tick-refused sound reading (omega arith)))
@@ -211,18 +237,21 @@ abbrev pub Valid : Event → Type 0
 Valid (Event.slot bit) = Unit {0}
 Valid Event.reset = Unit {0}
 Valid (Event.tick reading) = reading ≤ 2047
+Valid Event.short = Unit {0}
 
 pub sound-accepts : {s : State} → Sound s → (e : Event) → Valid e → Accepts s e
-unfolding slotted resetTag tickTag
+unfolding slotted resetTag shortTag tickTag
 sound-accepts sound (Event.slot bit) valid = rw (slot-happens sound bit)
 sound-accepts sound Event.reset valid = rw (reset-happens sound)
 sound-accepts sound (Event.tick reading) valid = rw (tick-happens sound reading valid)
+sound-accepts sound Event.short valid = rw (short-happens sound)
 
 -- ---- what any events lead to from a reached state is reached
 
 pub reached-after : {s : State} → Reached s → (e : Event) → Reached (after s e)
 reached-after r (Event.slot bit) = Reached.event (Event.slot bit) r (sound-accepts (reached-sound r) (Event.slot bit) tt)
 reached-after r Event.reset = Reached.event Event.reset r (sound-accepts (reached-sound r) Event.reset tt)
+reached-after r Event.short = Reached.event Event.short r (sound-accepts (reached-sound r) Event.short tt)
 reached-after r (Event.tick reading) =
     dite (decLe reading 2047) (λ small. Reached.event (Event.tick reading) r (sound-accepts (reached-sound r) (Event.tick reading) small))
     (λ high. rw (tick-passed (reached-sound r) reading (omega arith)) r)

@@ -23,7 +23,7 @@ unfolding endsCommand
 others-never these Silent bit h = refl
 others-never these (Command heard count) bit h = absurd (miss others 1 tt h)
 others-never these (Reading at) bit h = refl
-others-never these (Matching at) bit h = refl
+others-never these (Matching fast at) bit h = refl
 others-never these (Giving at) bit h = refl
 others-never these (Complementing at) bit h = refl
 others-never these (Awaiting at) bit h = refl

@@ -20,14 +20,15 @@ unfolding heardBit
 returns-2 c =
     simp (
       c .keep2 .ensures,
-      ← c .before .before .before .bit .ensures,
-      c .before .before .if1 .taken,
-      le-ltb _ _ (c .before .if2 .left),
+      c .before .whole .ensures,
+      ← c .before .before .before .before .bit .ensures,
+      c .before .before .before .if1 .taken,
+      le-ltb _ _ (c .before .before .if2 .left),
     )
 
 pub hear-bit-spec : {M : Type 1} → statement M
 unfolding heardBit
 hear-bit-spec =
     tie.close
-    (tie.spec (search needs) (search needs) (search needs) (search needs) returns returns-2
+    (tie.spec (search needs) (search needs) (search needs) (search needs) (search needs) returns returns-2
     (λ c. simp (c .keep3 .ensures, ← c .before .before .bit .ensures, c .before .if1 .left)))

@@ -22,7 +22,7 @@ unfolding isChosen
 others-never Silent h = refl
 others-never (Command heard count) h = refl
 others-never (Reading at) h = refl
-others-never (Matching at) h = refl
+others-never (Matching fast at) h = refl
 others-never (Giving at) h = refl
 others-never (Complementing at) h = refl
 others-never (Awaiting at) h = refl

@@ -1,6 +1,6 @@
 -- What whole ROM commands come to, by induction on the bits that are left. Assumes nothing.
 use mathlib.Core.Path.{_≡_, refl, sym, ap, _∙_}
-use mathlib.Core.Bool.{Bool, true, false, not, Bool·beq, and-true}
+use mathlib.Core.Bool.{Bool, true, false, not, _||_, Bool·beq, and-true}
 use mathlib.Core.List.{List, [], _∷_, _++_, flatMap}
 use Prim.Native.Nat.{ℕ, zero, suc, _+_, _/_, _%_, _^_, _<_, _≤_}
 use native.Mathlib.Nat.{div-one, mod-eq-of-lt}
@@ -10,12 +10,13 @@ use Rattle.bits.specs.Choose.{if_then_else_}
 use Rattle.bits.specs.Bits.{bitOf, bitsOf, numberOf, shiftIn, shiftAll, released}
 use Rattle.bits.specs.Bits.Laws.{length-bits, number-bits, heard-whole, bits-from}
 use Rattle.bits.specs.Tests.{beq-eq}
-use Rattle.select.specs.Select.{keeps, clears, resetSelect, romCommand, following, heardBit, slotAt, slotOf}
+use Rattle.select.specs.Select.{keeps, unmarked, clears, listening, romCommand, following, whole, heardBit, slotAt, slotOf}
 use Rattle.select.specs.Select.Laws.{command-more, command-last, following-more, read-more, read-last, heard-right-more, heard-right-last, heard-wrong}
 use Rattle.select.specs.Select.Mark.{known, joins, rom-unknown, rom-joined}
 use Rattle.select.specs.Runs.{Ran, run, searchWith, searchAnswers}
 use Rattle.select.specs.declared.Choosing.{Choosing}
 use Rattle.select.specs.declared.Choosing.the-variants.{Silent, Command, Reading, Matching, Giving, Selected}
+use Rattle.select.specs.declared.Mode.{Mode}
 use Rattle.select.specs.declared.Select.{Select}
 
 -- ---- joining runs
@@ -34,11 +35,11 @@ run-append select number alarm (bit ∷ bits) more =
     ap (follows (slot .line ∷ [])) (run-append (slot .select) number alarm bits more)
 
 -- a silent tag stays silent, and leaves the line to the master
-pub run-silent : (mark : Bool) (number : ℕ) (alarm : Bool) (bits : List Bool) →
-    run (keeps mark Silent) number alarm bits ≡ record { select = keeps mark Silent; line = bits }
+pub run-silent : (mode : Mode) (number : ℕ) (alarm : Bool) (bits : List Bool) →
+    run (keeps mode Silent) number alarm bits ≡ record { select = keeps mode Silent; line = bits }
 unfolding run slotOf slotAt
-run-silent mark number alarm [] = refl
-run-silent mark number alarm (bit ∷ bits) = ap (follows (bit ∷ [])) (run-silent mark number alarm bits)
+run-silent mode number alarm [] = refl
+run-silent mode number alarm (bit ∷ bits) = ap (follows (bit ∷ [])) (run-silent mode number alarm bits)
 
 last-bit : (number at : ℕ) → bitsOf 1 (number / 2 ^ at) ≡ bitOf number at ∷ []
 unfolding bitsOf
@@ -46,73 +47,76 @@ last-bit number at = bits-from 0 number at
 
 -- ---- a command byte
 
-command-run : (number : ℕ) (alarm mark bit : Bool) (bits : List Bool) (heard count : ℕ) → count + length bits ≡ 7 →
-    run (keeps mark (Command heard count)) number alarm (bit ∷ bits) ≡
-    record { select = romCommand (shiftAll 8 heard (bit ∷ bits)) mark alarm; line = bit ∷ bits }
+command-run : (number : ℕ) (alarm : Bool) (mode : Mode) (bit : Bool) (bits : List Bool) (heard count : ℕ) → count + length bits ≡ 7 →
+    run (keeps mode (Command heard count)) number alarm (bit ∷ bits) ≡
+    record { select = romCommand (shiftAll 8 heard (bit ∷ bits)) mode alarm; line = bit ∷ bits }
 unfolding run slotOf slotAt shiftAll
-command-run number alarm mark bit [] heard count h = rw (command-last heard count mark bit alarm (omega arith))
-command-run number alarm mark bit (b ∷ bs) heard count h =
-    rw (command-more heard count mark bit alarm (omega arith))
-    (ap (follows (bit ∷ [])) (command-run number alarm mark b bs (shiftIn 8 heard bit) (count + 1) (omega arith)))
+command-run number alarm mode bit [] heard count h = rw (command-last heard count mode bit alarm (omega arith))
+command-run number alarm mode bit (b ∷ bs) heard count h =
+    rw (command-more heard count mode bit alarm (omega arith))
+    (ap (follows (bit ∷ [])) (command-run number alarm mode b bs (shiftIn 8 heard bit) (count + 1) (omega arith)))
 
 -- eight slots after a reset: what `romCommand` says of the byte they carry
-pub run-command : (select : Select) (number byte : ℕ) (alarm : Bool) → byte < 256 →
-    run (resetSelect select) number alarm (bitsOf 8 byte) ≡
-    record { select = romCommand byte (select .mark) alarm; line = bitsOf 8 byte }
+pub run-command : (mode : Mode) (number byte : ℕ) (alarm : Bool) → byte < 256 →
+    run (listening mode) number alarm (bitsOf 8 byte) ≡
+    record { select = romCommand byte mode alarm; line = bitsOf 8 byte }
 unfolding bitsOf
-run-command select number byte alarm h =
-    command-run number alarm (select .mark) (bitOf byte 0) (bitsOf 7 (byte / 2)) 0 0 (omega (arith, length-bits 7 (byte / 2))) ∙
-    ap (λ (heard : ℕ). record { select = romCommand heard (select .mark) alarm; line = bitsOf 8 byte }) (heard-whole 8 (omega arith) h)
+run-command mode number byte alarm h =
+    command-run number alarm mode (bitOf byte 0) (bitsOf 7 (byte / 2)) 0 0 (omega (arith, length-bits 7 (byte / 2))) ∙
+    ap (λ (heard : ℕ). record { select = romCommand heard mode alarm; line = bitsOf 8 byte }) (heard-whole 8 (omega arith) h)
 
 -- and what comes after them
-pub after-command : (select : Select) (number byte : ℕ) (alarm : Bool) (bits : List Bool) → byte < 256 →
-    run (resetSelect select) number alarm (bitsOf 8 byte ++ bits) ≡
-    follows (bitsOf 8 byte) (run (romCommand byte (select .mark) alarm) number alarm bits)
-after-command select number byte alarm bits h =
-    run-append (resetSelect select) number alarm (bitsOf 8 byte) bits ∙
-    ap (λ (r : Ran). follows (r .line) (run (r .select) number alarm bits)) (run-command select number byte alarm h)
+pub after-command : (mode : Mode) (number byte : ℕ) (alarm : Bool) (bits : List Bool) → byte < 256 →
+    run (listening mode) number alarm (bitsOf 8 byte ++ bits) ≡
+    follows (bitsOf 8 byte) (run (romCommand byte mode alarm) number alarm bits)
+after-command mode number byte alarm bits h =
+    run-append (listening mode) number alarm (bitsOf 8 byte) bits ∙
+    ap (λ (r : Ran). follows (r .line) (run (r .select) number alarm bits)) (run-command mode number byte alarm h)
 
 -- ---- Read ROM
 
-read-run : (number : ℕ) (alarm mark : Bool) (left at : ℕ) → at + left ≡ 63 →
-    run (keeps mark (Reading at)) number alarm (released (suc left)) ≡
-    record { select = keeps mark Selected; line = bitsOf (suc left) (number / 2 ^ at) }
+read-run : (number : ℕ) (alarm : Bool) (mode : Mode) (left at : ℕ) → at + left ≡ 63 →
+    run (keeps mode (Reading at)) number alarm (released (suc left)) ≡
+    record { select = keeps mode Selected; line = bitsOf (suc left) (number / 2 ^ at) }
 unfolding run slotOf slotAt
-read-run number alarm mark zero at h =
-    rw (read-last at mark (omega arith), last-bit number at, and-true (bitOf number at))
-read-run number alarm mark (suc left) at h =
-    rw (read-more at mark (omega arith), bits-from (suc left) number at, and-true (bitOf number at))
-    (ap (follows (bitOf number at ∷ [])) (read-run number alarm mark left (at + 1) (omega arith)))
+read-run number alarm mode zero at h =
+    rw (read-last at mode (omega arith), last-bit number at, and-true (bitOf number at))
+read-run number alarm mode (suc left) at h =
+    rw (read-more at mode (omega arith), bits-from (suc left) number at, and-true (bitOf number at))
+    (ap (follows (bitOf number at ∷ [])) (read-run number alarm mode left (at + 1) (omega arith)))
 
 -- "Read 33h": the line carries the number, and the tag goes on to memory commands
-pub run-read : (select : Select) (number : ℕ) (alarm : Bool) →
-    run (resetSelect select) number alarm (bitsOf 8 0x33 ++ released 64) ≡
-    record { select = clears Selected; line = bitsOf 8 0x33 ++ bitsOf 64 number }
+pub run-read : (mode : Mode) (number : ℕ) (alarm : Bool) →
+    run (listening mode) number alarm (bitsOf 8 0x33 ++ released 64) ≡
+    record { select = clears (mode .speed) Selected; line = bitsOf 8 0x33 ++ bitsOf 64 number }
 unfolding romCommand
-run-read select number alarm =
-    after-command select number 0x33 alarm (released 64) (omega arith) ∙
-    ap (follows (bitsOf 8 0x33)) (rw div-one at (read-run number alarm false 63 0 refl))
+run-read mode number alarm =
+    after-command mode number 0x33 alarm (released 64) (omega arith) ∙
+    ap (follows (bitsOf 8 0x33)) (rw div-one at (read-run number alarm (unmarked (mode .speed)) 63 0 refl))
 
 -- ---- Match and Search: the tag is told a number bit by bit
 
--- Where a telling stands at bit `at`, the slots that tell it one bit, and what the line carries in them, by the tag's own bit
--- and the one that is told. A telling's slots come to what `heardBit` says.
+-- Where a telling stands at bit `at`, whether a whole one sets the speed, the slots that tell it one bit, and what the line carries in
+-- them, by the tag's own bit and the one that is told. A telling's slots come to what `heardBit` says.
 pub record Telling : Type 0 where
   pub stage : ℕ → Choosing
+  pub fast : Bool
   pub slots : Bool → List Bool
   pub line : Bool → Bool → List Bool
-  pub tells : (number : ℕ) (alarm mark bit : Bool) (at : ℕ) (rest : List Bool) →
-      run (keeps mark (stage at)) number alarm (slots bit ++ rest) ≡
-      follows (line (bitOf number at) bit) (run (heardBit number at bit (stage (following at)) mark) number alarm rest)
+  pub tells : (number : ℕ) (alarm : Bool) (mode : Mode) (bit : Bool) (at : ℕ) (rest : List Bool) →
+      run (keeps mode (stage at)) number alarm (slots bit ++ rest) ≡
+      follows (line (bitOf number at) bit) (run (heardBit number at bit (stage (following at)) fast mode) number alarm rest)
 
-unfoldable pub matching : Telling
+-- Match 55h, and 69h, which is `fast`
+unfoldable pub matching : Bool → Telling
 unfolding run slotOf slotAt
-matching =
+matching fast =
     record {
-      stage = Matching;
+      stage = Matching fast;
+      fast = fast;
       slots = λ bit. bit ∷ [];
       line = λ own bit. bit ∷ [];
-      tells = λ number alarm mark bit at rest. refl;
+      tells = λ number alarm mode bit at rest. refl;
     }
 
 unfoldable pub searching : Telling
@@ -120,63 +124,64 @@ unfolding run slotOf slotAt
 searching =
     record {
       stage = Giving;
+      fast = false;
       slots = λ choice. true ∷ true ∷ choice ∷ [];
       line = λ own choice. own ∷ not own ∷ choice ∷ [];
-      tells = λ number alarm mark bit at rest. simp (and-true (bitOf number at), and-true (not (bitOf number at)));
+      tells = λ number alarm mode bit at rest. simp (and-true (bitOf number at), and-true (not (bitOf number at)));
     }
 
 -- one bit that is right, with more to come
-told-right : (way : Telling) (number : ℕ) (alarm mark : Bool) (at : ℕ) (rest : List Bool) → at < 63 →
-    run (keeps mark (way .stage at)) number alarm (way .slots (bitOf number at) ++ rest) ≡
-    follows (way .line (bitOf number at) (bitOf number at)) (run (keeps mark (way .stage (at + 1))) number alarm rest)
-told-right way number alarm mark at rest h =
+told-right : (way : Telling) (number : ℕ) (alarm : Bool) (mode : Mode) (at : ℕ) (rest : List Bool) → at < 63 →
+    run (keeps mode (way .stage at)) number alarm (way .slots (bitOf number at) ++ rest) ≡
+    follows (way .line (bitOf number at) (bitOf number at)) (run (keeps mode (way .stage (at + 1))) number alarm rest)
+told-right way number alarm mode at rest h =
     rw (
-      way .tells number alarm mark (bitOf number at) at rest,
-      heard-right-more number at (way .stage (following at)) mark h,
+      way .tells number alarm mode (bitOf number at) at rest,
+      heard-right-more number at (way .stage (following at)) (way .fast) mode h,
       following-more at h,
     )
 
 -- one bit that is wrong: silent from then on
-pub told-wrong : (way : Telling) (number : ℕ) (alarm mark bit : Bool) (at : ℕ) (rest : List Bool) →
+pub told-wrong : (way : Telling) (number : ℕ) (alarm : Bool) (mode : Mode) (bit : Bool) (at : ℕ) (rest : List Bool) →
     Bool·beq (bitOf number at) bit ≡ false →
-    run (keeps mark (way .stage at)) number alarm (way .slots bit ++ rest) ≡
-    record { select = keeps mark Silent; line = way .line (bitOf number at) bit ++ rest }
-told-wrong way number alarm mark bit at rest h =
+    run (keeps mode (way .stage at)) number alarm (way .slots bit ++ rest) ≡
+    record { select = keeps mode Silent; line = way .line (bitOf number at) bit ++ rest }
+told-wrong way number alarm mode bit at rest h =
     rw (
-      way .tells number alarm mark bit at rest,
-      heard-wrong number at bit (way .stage (following at)) mark h,
-      run-silent mark number alarm rest,
+      way .tells number alarm mode bit at rest,
+      heard-wrong number at bit (way .stage (following at)) (way .fast) mode h,
+      run-silent mode number alarm rest,
     )
 
--- the number's own bits, from bit `at` to the last: the tag is selected and marked
-told-whole : (way : Telling) (number : ℕ) (alarm mark : Bool) (left at : ℕ) → at + left ≡ 63 →
-    run (keeps mark (way .stage at)) number alarm (flatMap (way .slots) (bitsOf (suc left) (number / 2 ^ at))) ≡
-    record { select = keeps true Selected; line = flatMap (λ bit. way .line bit bit) (bitsOf (suc left) (number / 2 ^ at)) }
+-- the number's own bits, from bit `at` to the last: the tag is selected and marked, by a fast telling at overdrive
+told-whole : (way : Telling) (number : ℕ) (alarm : Bool) (mode : Mode) (left at : ℕ) → at + left ≡ 63 →
+    run (keeps mode (way .stage at)) number alarm (flatMap (way .slots) (bitsOf (suc left) (number / 2 ^ at))) ≡
+    record { select = keeps (whole (way .fast) mode) Selected; line = flatMap (λ bit. way .line bit bit) (bitsOf (suc left) (number / 2 ^ at)) }
 unfolding run flatMap
-told-whole way number alarm mark zero at h =
+told-whole way number alarm mode zero at h =
     rw (
       last-bit number at,
-      way .tells number alarm mark (bitOf number at) at [],
-      heard-right-last number at (way .stage (following at)) mark (omega arith),
+      way .tells number alarm mode (bitOf number at) at [],
+      heard-right-last number at (way .stage (following at)) (way .fast) mode (omega arith),
     )
-told-whole way number alarm mark (suc left) at h =
+told-whole way number alarm mode (suc left) at h =
     let rest = flatMap (way .slots) (bitsOf (suc left) (number / 2 ^ (at + 1))) in
-    rw (bits-from (suc left) number at, told-right way number alarm mark at rest (omega arith))
-    (ap (follows (way .line (bitOf number at) (bitOf number at))) (told-whole way number alarm mark left (at + 1) (omega arith)))
+    rw (bits-from (suc left) number at, told-right way number alarm mode at rest (omega arith))
+    (ap (follows (way .line (bitOf number at) (bitOf number at))) (told-whole way number alarm mode left (at + 1) (omega arith)))
 
 some-left : (bits : List Bool) (n : ℕ) → (bits ≡ bitsOf (length bits) n → ⊥) → 0 < length bits
 unfolding bitsOf
 some-left [] n other = absurd (other refl)
 some-left (bit ∷ bits) n other = omega arith
 
--- any other bits: the tag is silent at the end, and the mark is as it was
-told-other : (way : Telling) (number : ℕ) (alarm mark : Bool) (bits : List Bool) (at : ℕ) → at + length bits ≤ 64 →
+-- any other bits: the tag is silent at the end, and the mode is as it was
+told-other : (way : Telling) (number : ℕ) (alarm : Bool) (mode : Mode) (bits : List Bool) (at : ℕ) → at + length bits ≤ 64 →
     (bits ≡ bitsOf (length bits) (number / 2 ^ at) → ⊥) →
-    run (keeps mark (way .stage at)) number alarm (flatMap (way .slots) bits) .select ≡ keeps mark Silent
+    run (keeps mode (way .stage at)) number alarm (flatMap (way .slots) bits) .select ≡ keeps mode Silent
 unfolding flatMap bitsOf
-told-other way number alarm mark [] at h other = absurd (other refl)
-told-other way number alarm mark (bit ∷ bits) at h other =
-    by (Bool·beq (bitOf number at) bit) refl (told-other way number alarm mark bits (at + 1))
+told-other way number alarm mode [] at h other = absurd (other refl)
+told-other way number alarm mode (bit ∷ bits) at h other =
+    by (Bool·beq (bitOf number at) bit) refl (told-other way number alarm mode bits (at + 1))
   where
     rest : List Bool
     rest = flatMap (way .slots) bits
@@ -190,15 +195,15 @@ told-other way number alarm mark (bit ∷ bits) at h other =
         Bool·beq (bitOf number at) bit ≡ right →
         (at + 1 + length bits ≤ 64 →
         (bits ≡ bitsOf (length bits) (number / 2 ^ (at + 1)) → ⊥) →
-        run (keeps mark (way .stage (at + 1))) number alarm rest .select ≡ keeps mark Silent) →
-        run (keeps mark (way .stage at)) number alarm (way .slots bit ++ rest) .select ≡ keeps mark Silent
+        run (keeps mode (way .stage (at + 1))) number alarm rest .select ≡ keeps mode Silent) →
+        run (keeps mode (way .stage at)) number alarm (way .slots bit ++ rest) .select ≡ keeps mode Silent
     by true e onward =
         let same : bitOf number at ≡ bit = beq-eq (bitOf number at) bit (rw e tt) in
         let some : 0 < length bits = some-left bits (number / 2 ^ (at + 1)) (left-other same) in
         rw (← same)
-        (ap (λ (r : Ran). r .select) (told-right way number alarm mark at rest (omega arith)) ∙
+        (ap (λ (r : Ran). r .select) (told-right way number alarm mode at rest (omega arith)) ∙
         onward (omega arith) (left-other same))
-    by false e onward = ap (λ (r : Ran). r .select) (told-wrong way number alarm mark bit at rest e)
+    by false e onward = ap (λ (r : Ran). r .select) (told-wrong way number alarm mode bit at rest e)
 
 -- bit by bit as they are
 flat-single : (bits : List Bool) → flatMap (λ bit. bit ∷ []) bits ≡ bits
@@ -206,14 +211,30 @@ unfolding flatMap
 flat-single [] = refl
 flat-single (bit ∷ bits) = ap (_∷_ bit) (flat-single bits)
 
--- "Match 55h": with the number's bits the tag is selected and marked
-pub run-match : (select : Select) (number : ℕ) (alarm : Bool) →
-    run (resetSelect select) number alarm (bitsOf 8 0x55 ++ bitsOf 64 number) ≡
-    record { select = keeps true Selected; line = bitsOf 8 0x55 ++ bitsOf 64 number }
-unfolding romCommand matching
-run-match select number alarm =
-    after-command select number 0x55 alarm (bitsOf 64 number) (omega arith) ∙
-    ap (follows (bitsOf 8 0x55)) (rw (div-one, flat-single (bitsOf 64 number)) at (told-whole matching number alarm false 63 0 refl))
+-- the command byte of Match, and of the overdrive one
+abbrev pub matchByte : Bool → ℕ
+matchByte false = 0x55
+matchByte true = 0x69
+
+-- it is a byte, and leads to its Match with the mark cleared
+pub match-lt : (fast : Bool) → matchByte fast < 256
+match-lt false = omega arith
+match-lt true = omega arith
+
+pub rom-match : (fast : Bool) (mode : Mode) (alarm : Bool) → romCommand (matchByte fast) mode alarm ≡ clears (mode .speed) (Matching fast 0)
+unfolding romCommand
+rom-match false mode alarm = refl
+rom-match true mode alarm = refl
+
+-- "Match 55h", "69h": with the number's bits the tag is selected and marked, by 69h at overdrive
+pub run-match : (mode : Mode) (number : ℕ) (alarm fast : Bool) →
+    run (listening mode) number alarm (bitsOf 8 (matchByte fast) ++ bitsOf 64 number) ≡
+    record { select = keeps (whole fast mode) Selected; line = bitsOf 8 (matchByte fast) ++ bitsOf 64 number }
+unfolding matching
+run-match mode number alarm fast =
+    after-command mode number (matchByte fast) alarm (bitsOf 64 number) (match-lt fast) ∙
+    ap (follows (bitsOf 8 (matchByte fast)))
+    (rw (rom-match fast mode alarm) (rw (div-one, flat-single (bitsOf 64 number)) at (told-whole (matching fast) number alarm (unmarked (mode .speed)) 63 0 refl)))
 
 -- numbers of w bits that have the same bits are the same
 bits-same : (w : ℕ) {a b : ℕ} → a < 2 ^ w → b < 2 ^ w → bitsOf w a ≡ bitsOf w b → a ≡ b
@@ -221,70 +242,78 @@ bits-same w {a} {b} ha hb e =
     let same : a % 2 ^ w ≡ b % 2 ^ w = sym (number-bits w a) ∙ ap numberOf e ∙ number-bits w b in
     rw (mod-eq-of-lt ha, mod-eq-of-lt hb) at same
 
--- and with any other 64 bits it is silent
-pub run-match-other : (select : Select) (number : ℕ) (alarm : Bool) (bits : List Bool) → length bits ≡ 64 →
+-- and with any other 64 bits it is silent, at the speed that it had
+pub run-match-other : (mode : Mode) (number : ℕ) (alarm fast : Bool) (bits : List Bool) → length bits ≡ 64 →
     (bits ≡ bitsOf 64 number → ⊥) →
-    run (resetSelect select) number alarm (bitsOf 8 0x55 ++ bits) .select ≡ clears Silent
-unfolding romCommand matching
-run-match-other select number alarm bits h other =
-    ap (λ (r : Ran). r .select) (after-command select number 0x55 alarm bits (omega arith)) ∙
-    rw (flat-single bits) at (told-other matching number alarm false bits 0 (omega arith) (rw (h, div-one) other))
+    run (listening mode) number alarm (bitsOf 8 (matchByte fast) ++ bits) .select ≡ clears (mode .speed) Silent
+unfolding matching
+run-match-other mode number alarm fast bits h other =
+    ap (λ (r : Ran). r .select) (after-command mode number (matchByte fast) alarm bits (match-lt fast)) ∙
+    rw (rom-match fast mode alarm)
+    (rw (flat-single bits) at (told-other (matching fast) number alarm (unmarked (mode .speed)) bits 0 (omega arith) (rw (h, div-one) other)))
 
 -- so with those of any other number
-pub run-match-number : (select : Select) (number other : ℕ) (alarm : Bool) → number < 2 ^ 64 → other < 2 ^ 64 →
+pub run-match-number : (mode : Mode) (number other : ℕ) (alarm fast : Bool) → number < 2 ^ 64 → other < 2 ^ 64 →
     (other ≡ number → ⊥) →
-    run (resetSelect select) number alarm (bitsOf 8 0x55 ++ bitsOf 64 other) .select ≡ clears Silent
-run-match-number select number other alarm hn ho differ =
-    run-match-other select number alarm (bitsOf 64 other) (length-bits 64 other) (λ e. differ (bits-same 64 ho hn e))
+    run (listening mode) number alarm (bitsOf 8 (matchByte fast) ++ bitsOf 64 other) .select ≡ clears (mode .speed) Silent
+run-match-number mode number other alarm fast hn ho differ =
+    run-match-other mode number alarm fast (bitsOf 64 other) (length-bits 64 other) (λ e. differ (bits-same 64 ho hn e))
 
 -- "Search F0h", and "Conditional Search ECh .. joined only if" there is an alarm: a pass whose choices are the number's bits selects
 -- and marks the tag, which answers bit by bit
-pub run-search : (select : Select) (number byte : ℕ) (alarm : Bool) → byte < 256 → joins byte alarm ≡ true →
-    run (resetSelect select) number alarm (bitsOf 8 byte ++ searchWith (bitsOf 64 number)) ≡
-    record { select = keeps true Selected; line = bitsOf 8 byte ++ searchAnswers (bitsOf 64 number) }
+pub run-search : (mode : Mode) (number byte : ℕ) (alarm : Bool) → byte < 256 → joins byte alarm ≡ true →
+    run (listening mode) number alarm (bitsOf 8 byte ++ searchWith (bitsOf 64 number)) ≡
+    record { select = keeps (whole false mode) Selected; line = bitsOf 8 byte ++ searchAnswers (bitsOf 64 number) }
 unfolding searching
-run-search select number byte alarm h joined =
-    after-command select number byte alarm (searchWith (bitsOf 64 number)) h ∙
-    rw (rom-joined byte (select .mark) alarm joined)
-    (ap (follows (bitsOf 8 byte)) (rw div-one at (told-whole searching number alarm false 63 0 refl)))
+run-search mode number byte alarm h joined =
+    after-command mode number byte alarm (searchWith (bitsOf 64 number)) h ∙
+    rw (rom-joined byte mode alarm joined)
+    (ap (follows (bitsOf 8 byte)) (rw div-one at (told-whole searching number alarm (unmarked (mode .speed)) 63 0 refl)))
 
 -- a choice that differs silences it
-pub run-search-other : (select : Select) (number byte : ℕ) (alarm : Bool) (choices : List Bool) → byte < 256 →
+pub run-search-other : (mode : Mode) (number byte : ℕ) (alarm : Bool) (choices : List Bool) → byte < 256 →
     joins byte alarm ≡ true →
     length choices ≡ 64 → (choices ≡ bitsOf 64 number → ⊥) →
-    run (resetSelect select) number alarm (bitsOf 8 byte ++ searchWith choices) .select ≡ clears Silent
+    run (listening mode) number alarm (bitsOf 8 byte ++ searchWith choices) .select ≡ clears (mode .speed) Silent
 unfolding searching
-run-search-other select number byte alarm choices h joined whole other =
-    ap (λ (r : Ran). r .select) (after-command select number byte alarm (searchWith choices) h) ∙
-    rw (rom-joined byte (select .mark) alarm joined)
-    (told-other searching number alarm false choices 0 (omega arith) (rw (whole, div-one) other))
+run-search-other mode number byte alarm choices h joined whole other =
+    ap (λ (r : Ran). r .select) (after-command mode number byte alarm (searchWith choices) h) ∙
+    rw (rom-joined byte mode alarm joined)
+    (told-other searching number alarm (unmarked (mode .speed)) choices 0 (omega arith) (rw (whole, div-one) other))
 
 -- without an alarm a Conditional Search is not joined
-pub run-unjoined : (select : Select) (number : ℕ) (bits : List Bool) →
-    run (resetSelect select) number false (bitsOf 8 0xEC ++ bits) ≡ record { select = clears Silent; line = bitsOf 8 0xEC ++ bits }
+pub run-unjoined : (mode : Mode) (number : ℕ) (bits : List Bool) →
+    run (listening mode) number false (bitsOf 8 0xEC ++ bits) ≡ record { select = clears (mode .speed) Silent; line = bitsOf 8 0xEC ++ bits }
 unfolding romCommand
-run-unjoined select number bits =
-    after-command select number 0xEC false bits (omega arith) ∙ ap (follows (bitsOf 8 0xEC)) (run-silent false number false bits)
+run-unjoined mode number bits =
+    after-command mode number 0xEC false bits (omega arith) ∙ ap (follows (bitsOf 8 0xEC)) (run-silent (unmarked (mode .speed)) number false bits)
 
 -- ---- Skip, Resume, and any other byte
 
--- "Skip CCh"
-pub run-skip : (select : Select) (number : ℕ) (alarm : Bool) →
-    run (resetSelect select) number alarm (bitsOf 8 0xCC) ≡ record { select = clears Selected; line = bitsOf 8 0xCC }
+-- the command byte of Skip, and of the overdrive one
+abbrev pub skipByte : Bool → ℕ
+skipByte false = 0xCC
+skipByte true = 0x3C
+
+-- "Skip CCh", "3Ch"
+pub run-skip : (mode : Mode) (number : ℕ) (alarm fast : Bool) →
+    run (listening mode) number alarm (bitsOf 8 (skipByte fast)) ≡
+    record { select = clears (fast || mode .speed) Selected; line = bitsOf 8 (skipByte fast) }
 unfolding romCommand
-run-skip select number alarm = run-command select number 0xCC alarm (omega arith)
+run-skip mode number alarm false = run-command mode number 0xCC alarm (omega arith)
+run-skip mode number alarm true = run-command mode number 0x3C alarm (omega arith)
 
 -- "Resume needs" the mark
-pub run-resume : (select : Select) (number : ℕ) (alarm : Bool) →
-    run (resetSelect select) number alarm (bitsOf 8 0xA5) ≡
-    record { select = keeps (select .mark) (if select .mark then Selected else Silent); line = bitsOf 8 0xA5 }
+pub run-resume : (mode : Mode) (number : ℕ) (alarm : Bool) →
+    run (listening mode) number alarm (bitsOf 8 0xA5) ≡
+    record { select = keeps mode (if mode .mark then Selected else Silent); line = bitsOf 8 0xA5 }
 unfolding romCommand
-run-resume select number alarm = run-command select number 0xA5 alarm (omega arith)
+run-resume mode number alarm = run-command mode number 0xA5 alarm (omega arith)
 
 -- "Any other byte: silent until reset"
-pub run-unknown : (select : Select) (number byte : ℕ) (alarm : Bool) (bits : List Bool) → byte < 256 → known byte ≡ false →
-    run (resetSelect select) number alarm (bitsOf 8 byte ++ bits) ≡
-    record { select = keeps (select .mark) Silent; line = bitsOf 8 byte ++ bits }
-run-unknown select number byte alarm bits h other =
-    after-command select number byte alarm bits h ∙
-    rw (rom-unknown byte (select .mark) alarm other) (ap (follows (bitsOf 8 byte)) (run-silent (select .mark) number alarm bits))
+pub run-unknown : (mode : Mode) (number byte : ℕ) (alarm : Bool) (bits : List Bool) → byte < 256 → known byte ≡ false →
+    run (listening mode) number alarm (bitsOf 8 byte ++ bits) ≡
+    record { select = keeps mode Silent; line = bitsOf 8 byte ++ bits }
+run-unknown mode number byte alarm bits h other =
+    after-command mode number byte alarm bits h ∙
+    rw (rom-unknown byte mode alarm other) (ap (follows (bitsOf 8 byte)) (run-silent mode number alarm bits))

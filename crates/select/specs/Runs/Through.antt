@@ -10,12 +10,13 @@ use lib.ListN.{length}
 use Rattle.bits.specs.Choose.{either}
 use Rattle.bits.specs.Bits.{bitOf, bitsOf, shiftIn}
 use Rattle.bits.specs.Bits.Laws.{length-bits}
-use Rattle.select.specs.Select.{resetSelect, romCommand, commandBit, following, readBit, heardBit, slotAt, slotOf, isChosen}
+use Rattle.select.specs.Select.{listening, romCommand, commandBit, following, readBit, heardBit, slotAt, slotOf, isChosen}
 use Rattle.select.specs.Select.Laws.{following-more, command-cases}
 use Rattle.select.specs.Runs.{run, stillChoosing}
 use Rattle.select.specs.Runs.Laws.{run-command}
 use Rattle.select.specs.declared.Choosing.{Choosing}
 use Rattle.select.specs.declared.Choosing.the-variants.{Silent, Command, Reading, Matching, Giving, Complementing, Awaiting, Selected}
+use Rattle.select.specs.declared.Mode.{Mode}
 use Rattle.select.specs.declared.Select.{Select}
 
 -- at least n slots go by before the tag can be selected
@@ -23,7 +24,7 @@ unfoldable pub Lasts : Choosing → ℕ → Type 0
 Lasts Silent n = Unit
 Lasts (Command heard count) n = count + n ≤ 8
 Lasts (Reading at) n = at + n ≤ 64
-Lasts (Matching at) n = at + n ≤ 64
+Lasts (Matching fast at) n = at + n ≤ 64
 Lasts (Giving at) n = 3 * at + n ≤ 192
 Lasts (Complementing at) n = 3 * at + n ≤ 191
 Lasts (Awaiting at) n = 3 * at + n ≤ 190
@@ -33,29 +34,29 @@ abbrev SelectLasts : ℕ → Select → Type 0
 SelectLasts n select = Lasts (select .choosing) n
 
 -- what a command byte leads to is in its ranges
-rom-lasts : (byte : ℕ) (mark alarm : Bool) → SelectLasts 0 (romCommand byte mark alarm)
+rom-lasts : (byte : ℕ) (mode : Mode) (alarm : Bool) → SelectLasts 0 (romCommand byte mode alarm)
 unfolding Lasts
-rom-lasts byte mark alarm = command-cases (λ k. Lasts k 0) byte mark alarm (omega arith) (omega arith) (omega arith) refl tt
+rom-lasts byte mode alarm = command-cases (λ k. Lasts k 0) byte mode alarm (omega arith) (λ fast. omega arith) (omega arith) refl tt
 
-command-lasts : (heard count n : ℕ) (mark bit alarm : Bool) → count + suc n ≤ 8 → SelectLasts n (commandBit heard count mark bit alarm)
+command-lasts : (heard count n : ℕ) (mode : Mode) (bit alarm : Bool) → count + suc n ≤ 8 → SelectLasts n (commandBit heard count mode bit alarm)
 unfolding commandBit Lasts
-command-lasts heard count n mark bit alarm h =
+command-lasts heard count n mode bit alarm h =
     either (SelectLasts n) (ltb count 7)
     (λ e. omega (arith, ltb-true count 7 e))
-    (λ e. let none : n ≡ 0 = omega (arith, ltb-false count 7 e) in rw none (rom-lasts (shiftIn 8 heard bit) mark alarm))
+    (λ e. let none : n ≡ 0 = omega (arith, ltb-false count 7 e) in rw none (rom-lasts (shiftIn 8 heard bit) mode alarm))
 
-read-lasts : (at n : ℕ) (mark : Bool) → at + suc n ≤ 64 → SelectLasts n (readBit at mark)
+read-lasts : (at n : ℕ) (mode : Mode) → at + suc n ≤ 64 → SelectLasts n (readBit at mode)
 unfolding readBit Lasts
-read-lasts at n mark h =
+read-lasts at n mode h =
     either (λ (k : Choosing). Lasts k n) (ltb at 63)
     (λ e. rw (following-more at (ltb-true at 63 e)) (omega arith))
     (λ e. omega (arith, ltb-false at 63 e))
 
 -- `next` is what lasts where bits are left
-heard-lasts : (number at n : ℕ) (bit : Bool) (next : Choosing) (mark : Bool) → (at < 63 → Lasts next n) → (63 ≤ at → n ≡ 0) →
-    SelectLasts n (heardBit number at bit next mark)
+heard-lasts : (number at n : ℕ) (bit : Bool) (next : Choosing) (fast : Bool) (mode : Mode) → (at < 63 → Lasts next n) → (63 ≤ at → n ≡ 0) →
+    SelectLasts n (heardBit number at bit next fast mode)
 unfolding heardBit Lasts
-heard-lasts number at n bit next mark more last =
+heard-lasts number at n bit next fast mode more last =
     either (SelectLasts n) (Bool·beq (bitOf number at) bit)
     (λ e. either (SelectLasts n) (ltb at 63) (λ e. more (ltb-true at 63 e)) (λ e. last (ltb-false at 63 e)))
     (λ e. tt)
@@ -63,26 +64,26 @@ heard-lasts number at n bit next mark more last =
 slot-lasts : (select : Select) (number n : ℕ) (bit alarm : Bool) → Lasts (select .choosing) (suc n) →
     Lasts (slotOf select number bit alarm .select .choosing) n
 unfolding slotOf slotAt Lasts
-slot-lasts select number n bit alarm h = at (select .choosing) (select .mark) h
+slot-lasts select number n bit alarm h = at (select .choosing) (select .mode) h
   where
-    at : (k : Choosing) (mark : Bool) → Lasts k (suc n) → Lasts (slotAt k mark number bit alarm .select .choosing) n
-    at Silent mark h = tt
-    at (Command heard count) mark h = command-lasts heard count n mark bit alarm h
-    at (Reading i) mark h = read-lasts i n mark h
-    at (Matching i) mark h =
-        heard-lasts number i n bit (Matching (following i)) mark (λ m. rw (following-more i m) (omega arith)) (λ l. omega arith)
-    at (Giving i) mark h = omega arith
-    at (Complementing i) mark h = omega arith
-    at (Awaiting i) mark h =
-        heard-lasts number i n bit (Giving (following i)) mark (λ m. rw (following-more i m) (omega arith)) (λ l. omega arith)
-    at Selected mark h = omega arith
+    at : (k : Choosing) (mode : Mode) → Lasts k (suc n) → Lasts (slotAt k mode number bit alarm .select .choosing) n
+    at Silent mode h = tt
+    at (Command heard count) mode h = command-lasts heard count n mode bit alarm h
+    at (Reading i) mode h = read-lasts i n mode h
+    at (Matching fast i) mode h =
+        heard-lasts number i n bit (Matching fast (following i)) fast mode (λ m. rw (following-more i m) (omega arith)) (λ l. omega arith)
+    at (Giving i) mode h = omega arith
+    at (Complementing i) mode h = omega arith
+    at (Awaiting i) mode h =
+        heard-lasts number i n bit (Giving (following i)) false mode (λ m. rw (following-more i m) (omega arith)) (λ l. omega arith)
+    at Selected mode h = omega arith
 
 unchosen : (k : Choosing) (n : ℕ) → Lasts k (suc n) → isChosen k ≡ false
 unfolding Lasts isChosen
 unchosen Silent n h = refl
 unchosen (Command heard count) n h = refl
 unchosen (Reading at) n h = refl
-unchosen (Matching at) n h = refl
+unchosen (Matching fast at) n h = refl
 unchosen (Giving at) n h = refl
 unchosen (Complementing at) n h = refl
 unchosen (Awaiting at) n h = refl
@@ -111,19 +112,19 @@ unfolding Lasts
 byte-lasts byte = omega (arith, length-bits 8 byte)
 
 -- from a reset to the end of the command byte, and on
-pub choosing-after-command : (select : Select) (number byte : ℕ) (alarm : Bool) (bits : List Bool) → byte < 256 →
-    stillChoosing (resetSelect select) number alarm (bitsOf 8 byte ++ bits) ≡
-    stillChoosing (romCommand byte (select .mark) alarm) number alarm bits
-choosing-after-command select number byte alarm bits h =
+pub choosing-after-command : (mode : Mode) (number byte : ℕ) (alarm : Bool) (bits : List Bool) → byte < 256 →
+    stillChoosing (listening mode) number alarm (bitsOf 8 byte ++ bits) ≡
+    stillChoosing (romCommand byte mode alarm) number alarm bits
+choosing-after-command mode number byte alarm bits h =
     rw (
-      choosing-append (resetSelect select) number alarm (bitsOf 8 byte) bits,
-      choosing-while (resetSelect select) number alarm (bitsOf 8 byte) (byte-lasts byte),
-      run-command select number byte alarm h,
+      choosing-append (listening mode) number alarm (bitsOf 8 byte) bits,
+      choosing-while (listening mode) number alarm (bitsOf 8 byte) (byte-lasts byte),
+      run-command mode number byte alarm h,
     )
 
 -- a whole command, over as many slots as it lasts
-pub choosing-through : (select : Select) (number byte : ℕ) (alarm : Bool) (bits : List Bool) → byte < 256 →
-    Lasts (romCommand byte (select .mark) alarm .choosing) (length bits) →
-    stillChoosing (resetSelect select) number alarm (bitsOf 8 byte ++ bits) ≡ true
-choosing-through select number byte alarm bits h lasts =
-    choosing-after-command select number byte alarm bits h ∙ choosing-while (romCommand byte (select .mark) alarm) number alarm bits lasts
+pub choosing-through : (mode : Mode) (number byte : ℕ) (alarm : Bool) (bits : List Bool) → byte < 256 →
+    Lasts (romCommand byte mode alarm .choosing) (length bits) →
+    stillChoosing (listening mode) number alarm (bitsOf 8 byte ++ bits) ≡ true
+choosing-through mode number byte alarm bits h lasts =
+    choosing-after-command mode number byte alarm bits h ∙ choosing-while (romCommand byte mode alarm) number alarm bits lasts

@@ -7,9 +7,10 @@ use borrow.Author.Tests.{eqb-true}
 use lib.Dec.{ltb, eqb}
 use Rattle.bits.specs.Choose.{if_then_else_}
 use Rattle.bits.specs.Bits.{bitOf, shiftIn}
-use Rattle.select.specs.Select.{keeps, clears, romCommand, commandBit, following, readBit, heardBit, slotAt, slotOf, endsCommand}
+use Rattle.select.specs.Select.{keeps, clears, romCommand, commandBit, following, readBit, whole, heardBit, slotAt, slotOf, endsCommand}
 use Rattle.select.specs.declared.Choosing.{Choosing}
 use Rattle.select.specs.declared.Choosing.the-variants.{Silent, Command, Reading, Matching, Giving, Complementing, Awaiting, Selected}
+use Rattle.select.specs.declared.Mode.{Mode}
 use Rattle.select.specs.declared.Select.{Select}
 
 -- "Conditional Search is joined only if BOR, THF or TLF is 1", Search always
@@ -21,17 +22,17 @@ unfoldable pub among : List ℕ → ℕ → Bool
 among [] byte = false
 among (this ∷ these) byte = eqb byte this || among these byte
 
--- "Read, Match, both Searches and Skip clear the Resume mark"
+-- "Read, Match, both Searches and Skip clear the Resume mark", and so do the overdrive Match and Skip
 unfoldable pub clearing : ℕ → Bool
-clearing byte = among (0x33 ∷ 0x55 ∷ 0xF0 ∷ 0xEC ∷ 0xCC ∷ []) byte
+clearing byte = among (0x33 ∷ 0x55 ∷ 0x69 ∷ 0xF0 ∷ 0xEC ∷ 0xCC ∷ 0x3C ∷ []) byte
 
 -- with Resume these are all the commands
 unfoldable pub known : ℕ → Bool
-known byte = among (0x33 ∷ 0x55 ∷ 0xF0 ∷ 0xEC ∷ 0xCC ∷ 0xA5 ∷ []) byte
+known byte = among (0x33 ∷ 0x55 ∷ 0x69 ∷ 0xF0 ∷ 0xEC ∷ 0xCC ∷ 0x3C ∷ 0xA5 ∷ []) byte
 
 -- "a whole Match or either whole Search": this slot is its last bit, and it is right
 unfoldable pub endsWhole : Choosing → ℕ → Bool → Bool
-endsWhole (Matching at) number bit = if ltb at 63 then false else Bool·beq (bitOf number at) bit
+endsWhole (Matching fast at) number bit = if ltb at 63 then false else Bool·beq (bitOf number at) bit
 endsWhole (Awaiting at) number bit = if ltb at 63 then false else Bool·beq (bitOf number at) bit
 endsWhole Silent number bit = false
 endsWhole (Command heard count) number bit = false
@@ -42,13 +43,13 @@ endsWhole Selected number bit = false
 
 -- ---- what `romCommand` says of them
 
-pub rom-joined : (byte : ℕ) (mark alarm : Bool) → joins byte alarm ≡ true → romCommand byte mark alarm ≡ clears (Giving 0)
+pub rom-joined : (byte : ℕ) (mode : Mode) (alarm : Bool) → joins byte alarm ≡ true → romCommand byte mode alarm ≡ clears (mode .speed) (Giving 0)
 unfolding romCommand joins
-rom-joined byte mark alarm = by (eqb byte 0xF0) (eqb byte 0xEC) alarm refl refl
+rom-joined byte mode alarm = by (eqb byte 0xF0) (eqb byte 0xEC) alarm refl refl
   where
     by : (search conditional alarm : Bool) → eqb byte 0xF0 ≡ search → eqb byte 0xEC ≡ conditional →
         (search || (conditional && alarm)) ≡ true →
-        romCommand byte mark alarm ≡ clears (Giving 0)
+        romCommand byte mode alarm ≡ clears (mode .speed) (Giving 0)
     by true conditional alarm e f h = rw (eqb-true byte 0xF0 e)
     by false true true e f h = rw (eqb-true byte 0xEC f)
     by false true false e f h = cc
@@ -61,57 +62,60 @@ clears-too P true p q = p
 clears-too P false p q = q
 
 -- a command that clears the mark, Resume, and one that is not known
-rom-cases : (P : Select → Bool → Bool → Type 0) (byte : ℕ) (mark alarm : Bool) →
-    ((k : Choosing) → P (clears k) true true) →
-    ((k : Choosing) → P (keeps mark k) false true) →
-    P (keeps mark Silent) false false →
-    P (romCommand byte mark alarm) (clearing byte) (known byte)
+rom-cases : (P : Select → Bool → Bool → Type 0) (byte : ℕ) (mode : Mode) (alarm : Bool) →
+    ((speed : Bool) (k : Choosing) → P (clears speed k) true true) →
+    ((k : Choosing) → P (keeps mode k) false true) →
+    P (keeps mode Silent) false false →
+    P (romCommand byte mode alarm) (clearing byte) (known byte)
 unfolding romCommand clearing known among
-rom-cases P byte mark alarm cleared resumed unknown =
-    clears-too P (eqb byte 0x33) (cleared _)
-    (clears-too P (eqb byte 0x55) (cleared _)
-    (clears-too P (eqb byte 0xF0) (cleared _)
-    (clears-too P (eqb byte 0xEC) (cleared _)
-    (clears-too P (eqb byte 0xCC) (cleared _)
-    (rest (eqb byte 0xA5))))))
+rom-cases P byte mode alarm cleared resumed unknown =
+    clears-too P (eqb byte 0x33) (cleared _ _)
+    (clears-too P (eqb byte 0x55) (cleared _ _)
+    (clears-too P (eqb byte 0x69) (cleared _ _)
+    (clears-too P (eqb byte 0xF0) (cleared _ _)
+    (clears-too P (eqb byte 0xEC) (cleared _ _)
+    (clears-too P (eqb byte 0xCC) (cleared _ _)
+    (clears-too P (eqb byte 0x3C) (cleared _ _)
+    (rest (eqb byte 0xA5))))))))
   where
-    rest : (resume : Bool) → P (if resume then keeps mark (if mark then Selected else Silent) else keeps mark Silent) false (resume || false)
+    rest : (resume : Bool) → P (if resume then keeps mode (if mode .mark then Selected else Silent) else keeps mode Silent) false (resume || false)
     rest true = resumed _
     rest false = unknown
 
-rom-mark : (byte : ℕ) (mark alarm : Bool) → romCommand byte mark alarm .mark ≡ (if clearing byte then false else mark)
-rom-mark byte mark alarm =
-    rom-cases (λ s cleared known. s .mark ≡ (if cleared then false else mark)) byte mark alarm (λ k. refl) (λ k. refl) refl
+rom-mark : (byte : ℕ) (mode : Mode) (alarm : Bool) → romCommand byte mode alarm .mode .mark ≡ (if clearing byte then false else mode .mark)
+rom-mark byte mode alarm =
+    rom-cases (λ s cleared known. s .mode .mark ≡ (if cleared then false else mode .mark)) byte mode alarm (λ speed k. refl) (λ k. refl) refl
 
-pub rom-unknown : (byte : ℕ) (mark alarm : Bool) → known byte ≡ false → romCommand byte mark alarm ≡ keeps mark Silent
-rom-unknown byte mark alarm =
-    rom-cases (λ s cleared known. known ≡ false → s ≡ keeps mark Silent) byte mark alarm (λ k e. cc) (λ k e. cc) (λ e. refl)
+pub rom-unknown : (byte : ℕ) (mode : Mode) (alarm : Bool) → known byte ≡ false → romCommand byte mode alarm ≡ keeps mode Silent
+rom-unknown byte mode alarm =
+    rom-cases (λ s cleared known. known ≡ false → s ≡ keeps mode Silent) byte mode alarm (λ speed k e. cc) (λ k e. cc) (λ e. refl)
 
 -- ---- the mark after a slot
 
 -- the mark that a slot leaves, by whether it ends a command that clears it
-command-mark : (heard count : ℕ) (mark bit alarm : Bool) →
-    commandBit heard count mark bit alarm .mark ≡ (if endsCommand clearing (Command heard count) bit then false else mark)
+command-mark : (heard count : ℕ) (mode : Mode) (bit alarm : Bool) →
+    commandBit heard count mode bit alarm .mode .mark ≡ (if endsCommand clearing (Command heard count) bit then false else mode .mark)
 unfolding commandBit endsCommand
-command-mark heard count mark bit alarm = by (ltb count 7)
+command-mark heard count mode bit alarm = by (ltb count 7)
   where
     byte : ℕ
     byte = shiftIn 8 heard bit
 
     by : (more : Bool) →
-        (if more then keeps mark (Command byte (count + 1)) else romCommand byte mark alarm) .mark ≡
-        (if (if more then false else clearing byte) then false else mark)
+        (if more then keeps mode (Command byte (count + 1)) else romCommand byte mode alarm) .mode .mark ≡
+        (if (if more then false else clearing byte) then false else mode .mark)
     by true = refl
-    by false = rom-mark byte mark alarm
+    by false = rom-mark byte mode alarm
 
-heard-mark : (number at : ℕ) (bit : Bool) (next : Choosing) (mark : Bool) →
-    heardBit number at bit next mark .mark ≡ (if (if ltb at 63 then false else Bool·beq (bitOf number at) bit) then true else mark)
+heard-mark : (number at : ℕ) (bit : Bool) (next : Choosing) (fast : Bool) (mode : Mode) →
+    heardBit number at bit next fast mode .mode .mark ≡
+    (if (if ltb at 63 then false else Bool·beq (bitOf number at) bit) then true else mode .mark)
 unfolding heardBit
-heard-mark number at bit next mark = by (ltb at 63) (Bool·beq (bitOf number at) bit)
+heard-mark number at bit next fast mode = by (ltb at 63) (Bool·beq (bitOf number at) bit)
   where
     by : (more right : Bool) →
-        (if right then (if more then keeps mark next else keeps true Selected) else keeps mark Silent) .mark ≡
-        (if (if more then false else right) then true else mark)
+        (if right then (if more then keeps mode next else keeps (whole fast mode) Selected) else keeps mode Silent) .mode .mark ≡
+        (if (if more then false else right) then true else mode .mark)
     by true true = refl
     by true false = refl
     by false true = refl
@@ -119,18 +123,19 @@ heard-mark number at bit next mark = by (ltb at 63) (Bool·beq (bitOf number at)
 
 -- the mark after any slot: cleared, set, or left
 pub mark-after : (select : Select) (number : ℕ) (bit alarm : Bool) →
-    slotOf select number bit alarm .select .mark ≡
-    (if endsCommand clearing (select .choosing) bit then false else if endsWhole (select .choosing) number bit then true else select .mark)
+    slotOf select number bit alarm .select .mode .mark ≡
+    (if endsCommand clearing (select .choosing) bit then false else if endsWhole (select .choosing) number bit then true else select .mode .mark)
 unfolding slotOf slotAt readBit endsCommand endsWhole
-mark-after select number bit alarm = at (select .choosing) (select .mark)
+mark-after select number bit alarm = at (select .choosing) (select .mode)
   where
-    at : (k : Choosing) (mark : Bool) →
-        slotAt k mark number bit alarm .select .mark ≡ (if endsCommand clearing k bit then false else if endsWhole k number bit then true else mark)
-    at Silent mark = refl
-    at (Command heard count) mark = command-mark heard count mark bit alarm
-    at (Reading n) mark = refl
-    at (Matching n) mark = heard-mark number n bit (Matching (following n)) mark
-    at (Giving n) mark = refl
-    at (Complementing n) mark = refl
-    at (Awaiting n) mark = heard-mark number n bit (Giving (following n)) mark
-    at Selected mark = refl
+    at : (k : Choosing) (mode : Mode) →
+        slotAt k mode number bit alarm .select .mode .mark ≡
+        (if endsCommand clearing k bit then false else if endsWhole k number bit then true else mode .mark)
+    at Silent mode = refl
+    at (Command heard count) mode = command-mark heard count mode bit alarm
+    at (Reading n) mode = refl
+    at (Matching fast n) mode = heard-mark number n bit (Matching fast (following n)) fast mode
+    at (Giving n) mode = refl
+    at (Complementing n) mode = refl
+    at (Awaiting n) mode = heard-mark number n bit (Giving (following n)) false mode
+    at Selected mode = refl

@@ -5,10 +5,10 @@ use Prim.Native.Nat.{ℕ}
 use borrow.Author.Needs.{needs}
 use borrow.Author.Tests.{eq-eqb, ne-eqb}
 use Rattle.record.specs.declared.Answered.{Answered}
-use Rattle.event.specs.Event.{resetTag}
+use Rattle.event.specs.Event.{resetTag, shortTag}
 use Rattle.record.specs.Record.{Outcome}
 use Rattle.tag.specs.Tag.{eventOf, step}
-use Rattle.tag.specs.Tag.Laws.{event-slot, event-reset, event-tick, event-reading, event-other}
+use Rattle.tag.specs.Tag.Laws.{event-slot, event-reset, event-short, event-tick, event-reading, event-other}
 use Rattle.tag.proofs.event.Statement.{statement}
 use Rattle.tag.proofs.event.Tie as tie
 
@@ -56,20 +56,27 @@ returns-5 c =
     (done .0 ∙ sym (ap answeredOf so), done .1 ∙ sym (ap imageOf so))
 
 returns-6 : tie.Need-returns-6
+unfolding shortTag
 returns-6 c =
+    let so = by-code (c .before .before) ∙ event-short _ _ _ _ (c .before .match .keys3) in
+    (c .short-reset .ensures ∙ sym (ap answeredOf so), sym (ap imageOf so))
+
+returns-7 : tie.Need-returns-7
+returns-7 c =
     let done = c .before .before .slot .ensures in
     let slot = c .before .before .before .before in
     let so = by-code (slot .before .before) ∙ event-slot _ _ _ _ (slot .if4 .taken) in
     (done .0 ∙ sym (ap answeredOf so), done .1 ∙ sym (ap imageOf so))
 
-returns-7 : tie.Need-returns-7
-returns-7 c =
+returns-8 : tie.Need-returns-8
+returns-8 c =
     let other = c .before .before in
-    let so = by-code (other .before) ∙ event-other _ _ _ _ (c .before .if4 .left) (other .match .rest .0 .1) (other .match .rest .1) in
+    let none = other .match .rest in
+    let so = by-code (other .before) ∙ event-other _ _ _ _ (c .before .if4 .left) (none .0 .0 .1) (none .0 .1) (none .1) in
     (c .refuse4 .ensures ∙ sym (ap answeredOf so), sym (ap imageOf so))
 
 pub event-spec : {M : Type 1} → statement M
 event-spec =
     tie.close
     (tie.spec (search needs) returns (search needs) (search needs) returns-2 (search needs) (search needs) returns-3 (search needs)
-    (search needs) (search needs) returns-4 (search needs) returns-5 (search needs) returns-6 returns-7)
+    (search needs) (search needs) (search needs) returns-4 (search needs) returns-5 returns-6 (search needs) returns-7 returns-8)

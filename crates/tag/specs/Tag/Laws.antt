@@ -12,18 +12,18 @@ use lib.ListN.{length, replicate, length-set, length-replicate}
 use Rattle.answer.specs.Answer.Laws.{not-accepted}
 use Rattle.answer.specs.declared.Answer.{Answer}
 use Rattle.bits.specs.Choose.{if_then_else_}
-use Rattle.event.specs.Event.{slotted, resetTag, tickTag}
-use Rattle.event.specs.Event.Laws.{length-slotted, length-tick, slotted-in-range, reset-in-range, tick-in-range}
+use Rattle.event.specs.Event.{slotted, resetTag, shortTag, tickTag}
+use Rattle.event.specs.Event.Laws.{length-slotted, length-tick, slotted-in-range, reset-in-range, short-in-range, tick-in-range}
 use Rattle.record.specs.declared.Tag.{Tag}
 use Rattle.record.specs.Record.{Outcome, goodNumber, goodCode, tagInRange, freshTag, accepted, refusal}
 use Rattle.tag.specs.Tag.{newImage, newTag, eventOf, step}
 
 -- ---- which answer
 
--- an event's own answer: "1 event code above 3", "2 tick with a reading above 2047"
+-- an event's own answer: "Answer 1 now begins above 4", "2 tick with a reading above 2047"
 unfoldable pub eventAnswer : ℕ → ℕ → Answer
 eventAnswer code reading =
-    if ltb 3 code then Answer.EventCode
+    if ltb 4 code then Answer.EventCode
     else if eqb code 3 && ltb 2047 reading then Answer.Reading
     else Answer.Accepted
 
@@ -34,44 +34,50 @@ stepAnswer image tag code reading =
     else if not (tagInRange tag) then Answer.RecordRange
     else eventAnswer code reading
 
--- what holds of a slot, a reset, a tick with a reading and the two refusals holds of every event, with its own answer
+-- what holds of a slot, the two resets, a tick with a reading and the two refusals holds of every event, with its own answer
 event-cases : (P : Outcome → Answer → Type 0) (image : List ℕ) (tag : Tag) (code reading : ℕ) →
     ((bit : Bool) → P (slotted image tag bit) Answer.Accepted) →
     P (resetTag image tag) Answer.Accepted →
+    P (shortTag image tag) Answer.Accepted →
     (reading ≤ 2047 → P (tickTag image tag reading) Answer.Accepted) →
     P (refusal Answer.EventCode tag image) Answer.EventCode →
     P (refusal Answer.Reading tag image) Answer.Reading →
     P (eventOf image tag code reading) (eventAnswer code reading)
 unfolding eventOf eventAnswer
-event-cases P image tag code reading slots reset tick above over =
-    by (eqb code 0) (eqb code 1) (eqb code 2) (eqb code 3) (ltb 2047 reading) refl refl refl refl refl
+event-cases P image tag code reading slots reset short tick above over =
+    by (eqb code 0) (eqb code 1) (eqb code 2) (eqb code 4) (eqb code 3) (ltb 2047 reading) refl refl refl refl refl refl
   where
-    by : (zero one two three high : Bool) →
-        eqb code 0 ≡ zero → eqb code 1 ≡ one → eqb code 2 ≡ two → eqb code 3 ≡ three → ltb 2047 reading ≡ high →
+    by : (zero one two four three high : Bool) →
+        eqb code 0 ≡ zero → eqb code 1 ≡ one → eqb code 2 ≡ two → eqb code 4 ≡ four → eqb code 3 ≡ three → ltb 2047 reading ≡ high →
         P (if zero then slotted image tag false
         else if one then slotted image tag true
         else if two then resetTag image tag
+        else if four then shortTag image tag
         else if not three then refusal Answer.EventCode tag image
         else if high then refusal Answer.Reading tag image
         else tickTag image tag reading)
-        (if ltb 3 code then Answer.EventCode else if three && high then Answer.Reading else Answer.Accepted)
-    by true one two three high p q r s t = rw (← s, eqb-true code 0 p) (slots false)
-    by false true two three high p q r s t = rw (← s, eqb-true code 1 q) (slots true)
-    by false false true three high p q r s t = rw (← s, eqb-true code 2 r) reset
-    by false false false true true p q r s t = rw (eqb-true code 3 s) over
-    by false false false true false p q r s t = rw (eqb-true code 3 s) (tick (ltb-false 2047 reading t))
-    by false false false false high p q r s t =
-        rw (lt-ltb 3 code (omega (arith, eqb-false code 0 p, eqb-false code 1 q, eqb-false code 2 r, eqb-false code 3 s))) above
+        (if ltb 4 code then Answer.EventCode else if three && high then Answer.Reading else Answer.Accepted)
+    by true one two four three high p q r f s t = rw (← s, eqb-true code 0 p) (slots false)
+    by false true two four three high p q r f s t = rw (← s, eqb-true code 1 q) (slots true)
+    by false false true four three high p q r f s t = rw (← s, eqb-true code 2 r) reset
+    by false false false true three high p q r f s t = rw (← s, eqb-true code 4 f) short
+    by false false false false true true p q r f s t = rw (eqb-true code 3 s) over
+    by false false false false true false p q r f s t = rw (eqb-true code 3 s) (tick (ltb-false 2047 reading t))
+    by false false false false false high p q r f s t =
+        let high : 4 < code =
+        omega (arith, eqb-false code 0 p, eqb-false code 1 q, eqb-false code 2 r, eqb-false code 3 s, eqb-false code 4 f) in
+        rw (lt-ltb 4 code high) above
 
 -- and with the two refusals that look at image and record first, of every call
 step-cases : (P : Outcome → Answer → Type 0) (image : List ℕ) (tag : Tag) (code reading : ℕ) →
     ((bit : Bool) → P (slotted image tag bit) Answer.Accepted) →
     P (resetTag image tag) Answer.Accepted →
+    P (shortTag image tag) Answer.Accepted →
     (reading ≤ 2047 → P (tickTag image tag reading) Answer.Accepted) →
     ((answer : Answer) → answer ≢ Answer.Accepted → P (refusal answer tag image) answer) →
     P (step image tag code reading) (stepAnswer image tag code reading)
 unfolding step stepAnswer
-step-cases P image tag code reading slots reset tick refused = by (eqb (length image) 8832) (tagInRange tag)
+step-cases P image tag code reading slots reset short tick refused = by (eqb (length image) 8832) (tagInRange tag)
   where
     by : (whole inRange : Bool) →
         P (if not whole then refusal Answer.ImageLength tag image
@@ -81,16 +87,16 @@ step-cases P image tag code reading slots reset tick refused = by (eqb (length i
     by false inRange = refused Answer.ImageLength (not-accepted Answer.ImageLength (omega arith))
     by true false = refused Answer.RecordRange (not-accepted Answer.RecordRange (omega arith))
     by true true =
-        event-cases P image tag code reading slots reset tick
+        event-cases P image tag code reading slots reset short tick
         (refused Answer.EventCode (not-accepted Answer.EventCode (omega arith)))
         (refused Answer.Reading (not-accepted Answer.Reading (omega arith)))
 
 -- the number of every call
 pub step-answer : (image : List ℕ) (tag : Tag) (code reading : ℕ) →
     step image tag code reading .answered .answer ≡ stepAnswer image tag code reading
-unfolding slotted resetTag tickTag
+unfolding slotted resetTag shortTag tickTag
 step-answer image tag code reading =
-    step-cases (λ o a. o .answered .answer ≡ a) image tag code reading (λ bit. refl) refl (λ small. refl) (λ answer no. refl)
+    step-cases (λ o a. o .answered .answer ≡ a) image tag code reading (λ bit. refl) refl refl (λ small. refl) (λ answer no. refl)
 
 -- of an image of 8,832 bytes and a record in its ranges it is 0, 1 or 2, by the event's own code and reading
 pub step-taken : (image : List ℕ) (tag : Tag) (code reading : ℕ) → length image ≡ 8832 → tagInRange tag ≡ true →
@@ -110,6 +116,10 @@ pub event-reset : (image : List ℕ) (tag : Tag) (code reading : ℕ) → code �
 unfolding eventOf
 event-reset image tag code reading e = simp e
 
+pub event-short : (image : List ℕ) (tag : Tag) (code reading : ℕ) → code ≡ 4 → eventOf image tag code reading ≡ shortTag image tag
+unfolding eventOf
+event-short image tag code reading e = simp e
+
 pub event-tick : (image : List ℕ) (tag : Tag) (code reading : ℕ) → code ≡ 3 → reading ≤ 2047 →
     eventOf image tag code reading ≡ tickTag image tag reading
 unfolding eventOf
@@ -121,11 +131,17 @@ unfolding eventOf
 event-reading image tag code reading e large = simp (e, lt-ltb 2047 reading large)
 
 -- and every code that is none
-pub event-other : (image : List ℕ) (tag : Tag) (code reading : ℕ) → 2 ≤ code → code ≢ 2 → code ≢ 3 →
+pub event-other : (image : List ℕ) (tag : Tag) (code reading : ℕ) → 2 ≤ code → code ≢ 2 → code ≢ 3 → code ≢ 4 →
     eventOf image tag code reading ≡ refusal Answer.EventCode tag image
 unfolding eventOf
-event-other image tag code reading h no-reset no-tick =
-    simp (ne-eqb code 0 (λ e. absurd (omega (arith, e))), ne-eqb code 1 (λ e. absurd (omega (arith, e))), ne-eqb code 2 no-reset, ne-eqb code 3 no-tick)
+event-other image tag code reading h no-reset no-tick no-short =
+    simp (
+      ne-eqb code 0 (λ e. absurd (omega (arith, e))),
+      ne-eqb code 1 (λ e. absurd (omega (arith, e))),
+      ne-eqb code 2 no-reset,
+      ne-eqb code 3 no-tick,
+      ne-eqb code 4 no-short,
+    )
 
 pub answer-taken : (image : List ℕ) (tag : Tag) (code reading : ℕ) → length image ≡ 8832 → tagInRange tag ≡ true →
     step image tag code reading .answered .answer ≡ eventAnswer code reading
@@ -138,10 +154,11 @@ answer-taken image tag code reading whole inRange =
 -- "A refusal returns bit 1, the record as given .. and no lent byte .. changed"
 pub step-refused : (image : List ℕ) (tag : Tag) (code reading : ℕ) → step image tag code reading .answered .answer ≢ Answer.Accepted →
     step image tag code reading ≡ refusal (step image tag code reading .answered .answer) tag image
-unfolding slotted resetTag tickTag
+unfolding slotted resetTag shortTag tickTag
 step-refused image tag code reading =
     step-cases (λ o a. o .answered .answer ≢ Answer.Accepted → o ≡ refusal (o .answered .answer) tag image) image tag code reading
     (λ bit refused. absurd (refused refl))
+    (λ refused. absurd (refused refl))
     (λ refused. absurd (refused refl))
     (λ small refused. absurd (refused refl))
     (λ answer is-one refused. refl)
@@ -149,10 +166,11 @@ step-refused image tag code reading =
 -- ---- the image's length
 
 pub length-step : (image : List ℕ) (tag : Tag) (code reading : ℕ) → length (step image tag code reading .image) ≡ length image
-unfolding resetTag
+unfolding resetTag shortTag
 length-step image tag code reading =
     step-cases (λ o a. length (o .image) ≡ length image) image tag code reading
     (length-slotted image tag)
+    refl
     refl
     (λ small. length-tick image tag reading)
     (λ answer refused. refl)
@@ -166,6 +184,7 @@ step-in-range image tag code reading h =
     step-cases (λ o a. tagInRange (o .answered .tag) ≡ true) image tag code reading
     (λ bit. slotted-in-range image tag bit h)
     (reset-in-range image tag h)
+    (short-in-range image tag h)
     (λ small. tick-in-range image tag reading small h)
     (λ answer refused. h)
 

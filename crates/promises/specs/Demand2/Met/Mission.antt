@@ -1,6 +1,6 @@
 -- A mission from a new tag on: its owner's commands one by one, and then its listing by `demand2`. Assumes nothing.
 use mathlib.Core.Path.{_≡_, refl, sym, ap, subst, _∙_}
-use mathlib.Core.Bool.{true}
+use mathlib.Core.Bool.{true, false}
 use mathlib.Core.List.{List, [], _∷_, _++_, map}
 use Prim.Native.Nat.{ℕ, zero, suc, _<_, _≤_}
 use native.Mathlib.Omega.{arith}
@@ -55,7 +55,7 @@ asked = told cleaned (startSlots 0)
 start-asked : (asked .image ≡ cleaned .image) × (deedAt asked (Event.slot true) ≡ Deed.Start)
 unfolding waySlots
 start-asked =
-    start-comes (reached-sound (cleaned-owned .reached)) Way.skip 0 (omega arith)
+    start-comes (reached-sound (cleaned-owned .reached)) (Way.skip false) 0 (omega arith)
     (λ checked. absurd (let no : _≡_ {A = ℕ} 0x00 0xAA = sym (rw (cleaned-owned .holds) clean-open) ∙ checked in omega arith))
 
 asked-owned : Owned number clean asked

@@ -1,13 +1,13 @@
 -- The slots of a Start come to a tag that may start: in the last of them the deed is Start, over the image as it was. Assumes nothing.
 use mathlib.Core.Path.{_≡_, refl}
-use mathlib.Core.Bool.{Bool, true}
+use mathlib.Core.Bool.{Bool, true, false}
 use mathlib.Core.List.{List, [], _∷_, _++_}
 use Prim.Native.Nat.{ℕ, _^_, _<_}
 use lib.Dec.{eqb}
 use Rattle.bits.specs.Bits.{bitOf, bitsOf, released}
 use Rattle.exchange.specs.Exchange.{slotOf, asks}
 use Rattle.exchange.specs.Runs as exchange
-use Rattle.exchange.specs.Runs.{Way, wayMark, commanding}
+use Rattle.exchange.specs.Runs.{Way, wayMode, commanding}
 use Rattle.bus.specs.declared.Control.{Control}
 use Rattle.bus.specs.declared.Deed.{Deed}
 use Rattle.bus.specs.declared.Hearing.{Hearing}
@@ -48,14 +48,14 @@ module _ {s : State} (sound : Sound s) (way : Way) (field : ℕ) (fits : field <
   unfolding answerTo controlByte guarded
   start-comes =
       let number = numberOf s in
-      let mark = wayMark way in
+      let mode = wayMode way false in
       let held = s .tag .exchange .held in
       let bus = controlBus Control.Start in
       let answer : eqb (answersOf s (Question.MayControl field)) 1 ≡ true = rw (full-may (s .image) field right) in
-      let headed = withExchange s (commanding number mark held (goTo bus (Stage.Hears (Hearing.Confirm Control.Start)))) in
-      let done = control-done (answersOf s) number mark held Control.Start bus in
+      let headed = withExchange s (commanding number mode held (goTo bus (Stage.Hears (Hearing.Confirm Control.Start)))) in
+      let done = control-done (answersOf s) number mode held Control.Start bus in
       let came = session-then s sound way (bitsOf 8 0xCC ++ bitsOf 64 field) (released 7)
-      (control-head (answersOf s) number mark held Control.Start refl field fits answer) refl in
+      (control-head (answersOf s) number mode held Control.Start refl field fits answer) refl in
       rw came (slots-before headed (released 7) true Deed.Start (rw (← ones, done) (ends-lastly 7 Deed.Start)))
 
 pub start-met : StartMet

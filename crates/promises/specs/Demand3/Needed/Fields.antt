@@ -10,7 +10,7 @@ use lib.ListN.{getD}
 use Rattle.bits.specs.Bits.{bitOf, bitsOf, released}
 use Rattle.dump.specs.Lines.{bytesFrom}
 use Rattle.exchange.specs.Exchange.{slotOf}
-use Rattle.exchange.specs.Runs.{Way, waySlots, wayLine, wayMark}
+use Rattle.exchange.specs.Runs.{Way, waySlots, wayLine, wayMode}
 use Rattle.image.specs.Answers.{mayRead}
 use Rattle.image.specs.Sent.{sentAt}
 use Rattle.select.specs.Select.{isChosen, isSelected}
@@ -33,8 +33,8 @@ pub reader-differs : (s t : State) → Sound s → Sound t → (field : ℕ) →
     run s (reader field) .line ≢ run t (reader field) .line
 unfolding waySlots wayLine pageSent sentWith bytesFrom bitsOf bitOf flatMap
 reader-differs s t sound-s sound-t field fits may zero shut same =
-    let read = reads-memory s sound-s Way.skip 0x001F field fits (omega arith) may .0 in
-    let unread = reads-nothing t sound-t Way.skip 0x001F field fits (released 24) (omega arith) (rw shut) .0 in
+    let read = reads-memory s sound-s (Way.skip false) 0x001F field fits (omega arith) may .0 in
+    let unread = reads-nothing t sound-t (Way.skip false) 0x001F field fits (released 24) (omega arith) (rw shut) .0 in
     let first : bitOf (sentAt (s .image) (s .tag .code) 0x001F) 0 ≡ true =
     ap (λ (line : List Bool). getD line 97 true) (sym read ∙ same ∙ unread) in
     false≢true (rw zero at first)
@@ -56,8 +56,8 @@ chosen-unconditional u (bit ∷ bits) sound chosen =
 -- after Skip every slot is a memory command's
 pub skipping-unconditional : (s : State) (bits : List Bool) → Sound s → Always Unconditional s (skipping []) →
     Always Unconditional s (skipping bits)
-unfolding waySlots wayMark isChosen bitsOf
+unfolding waySlots wayMode isChosen bitsOf
 skipping-unconditional s bits sound first =
     always-append Unconditional s (skipping []) (map Event.slot bits) first
     (chosen-unconditional (run s (skipping []) .state) bits (sound-run (skipping []) sound)
-    (ap (λ (r : Ran). isSelected (r .state .tag .exchange .select)) (session-way s sound Way.skip)))
+    (ap (λ (r : Ran). isSelected (r .state .tag .exchange .select)) (session-way s sound (Way.skip false))))

@@ -11,7 +11,7 @@ use Rattle.bits.specs.Bits.{bitsOf}
 use Rattle.bits.specs.Bytes.{Bytes}
 use Rattle.exchange.specs.declared.Exchange.{Exchange}
 use Rattle.exchange.specs.Exchange as exchange
-use Rattle.exchange.specs.Runs.{commanding, Way, waySlots, wayMark}
+use Rattle.exchange.specs.Runs.{commanding, Way, waySlots, wayMode}
 use Rattle.image.specs.Answers.{checked, mayControl, mayCopy}
 use Rattle.image.specs.Answers.Laws.{control-open, copy-idle}
 use Rattle.image.specs.Registers.{mip}
@@ -23,8 +23,7 @@ use Rattle.bus.specs.declared.Stage.{Stage}
 use Rattle.bus.specs.Bus.{clearBus, goTo}
 use Rattle.field.specs.Field.{guarded}
 use Rattle.mission.specs.Mission.{cleared, started, startedCounters}
-use Rattle.select.specs.declared.Choosing.the-variants.{Command}
-use Rattle.select.specs.Select.{keeps}
+use Rattle.select.specs.Select.{unmarked, listening}
 use Rattle.event.specs.Event.{performed, performedCounters, resetTag}
 use Rattle.promises.specs.Demand3.{JustReset}
 use Rattle.promises.specs.Line.ControlRun.{controlSlots, controlBus}
@@ -82,7 +81,7 @@ abbrev pub waiting : ℕ → List ℕ → Exchange
 waiting number bytes =
     record {
       number = number;
-      select = keeps false (Command 0 0);
+      select = listening (unmarked false);
       held = record { pad = bytes; ta = 0x0000; ending = 0x1F; pf = false; aa = false };
       bus = clearBus (Stage.Hears Hearing.Command);
     }
@@ -103,7 +102,7 @@ module _ {number : ℕ} {image : List ℕ} {s : State} (o : Owned number image s
       Owned number image (told s (writeSlots address bytes))
   unfolding waySlots
   written-owned address bytes low whole small =
-      let wrote = writes-scratchpad s sound Way.skip address bytes long (omega arith) whole small in
+      let wrote = writes-scratchpad s sound (Way.skip false) address bytes long (omega arith) whole small in
       told-owned (writeSlots address bytes) o (ap (λ (r : Ran). r .state .image) wrote ∙ o .holds)
 
   module _ (off : checked image ≡ false) where
@@ -114,7 +113,7 @@ module _ {number : ℕ} {image : List ℕ} {s : State} (o : Owned number image s
         let may : mayCopy (s .image) 0 address ≡ true =
         rw (o .holds) (copy-idle image 0 address low idle ∙ control-open image 0 off) in
         told-owned (copySlots address 0x1F 0 0) (written-owned address bytes low whole small)
-        (writes-and-copies s sound Way.skip Way.skip address 0 0 bytes long (omega arith) whole small (omega arith) may .1
+        (writes-and-copies s sound (Way.skip false) (Way.skip false) address 0 0 bytes long (omega arith) whole small (omega arith) may .1
         ∙ ap (λ (i : List ℕ). storedRun i address bytes) (o .holds))
 
     pub cleared-owned : Owned number (cleared image) (clearedBy s)
@@ -122,17 +121,17 @@ module _ {number : ℕ} {image : List ℕ} {s : State} (o : Owned number image s
     cleared-owned =
         let may : mayControl (s .image) 0 ≡ true = rw (o .holds) (control-open image 0 off) in
         told-owned (controlSlots Control.Clear 0 0xFF) o
-        (ap (λ (r : Ran). r .state .image) (controls s sound Way.skip 0 (omega arith) may Control.Clear refl) ∙ ap cleared (o .holds))
+        (ap (λ (r : Ran). r .state .image) (controls s sound (Way.skip false) 0 (omega arith) may Control.Clear refl) ∙ ap cleared (o .holds))
 
   -- with a password that may
   module _ (field : ℕ) (fits : field < 2 ^ 64) (may : mayControl image field ≡ true) where
     starting : run s (skipping (controlSlots Control.Start field 0xFF)) ≡
         record {
-          line = greeting s Way.skip ++ controlSlots Control.Start field 0xFF;
-          state = afterDeed Deed.Start s (commanding (numberOf s) (wayMark Way.skip) (s .tag .exchange .held) (goTo (controlBus Control.Start) Stage.Over));
+          line = greeting s (Way.skip false) ++ controlSlots Control.Start field 0xFF;
+          state = afterDeed Deed.Start s (commanding (numberOf s) (wayMode (Way.skip false) false) (s .tag .exchange .held) (goTo (controlBus Control.Start) Stage.Over));
         }
     unfolding waySlots guarded
-    starting = controls s sound Way.skip field fits (rw (o .holds) may) Control.Start refl
+    starting = controls s sound (Way.skip false) field fits (rw (o .holds) may) Control.Start refl
 
     pub started-owned : Owned number (started image) (startedBy s field)
     unfolding performed
@@ -144,11 +143,11 @@ module _ {number : ℕ} {image : List ℕ} {s : State} (o : Owned number image s
         ap (λ (r : Ran). r .state .tag .counters) starting ∙ ap (λ (i : List ℕ). startedCounters i (s .tag .counters)) (o .holds)
 
   pub is-ready : (bytes : List ℕ) → length bytes ≡ 32 → Bytes bytes → Ready number image bytes (ready s bytes)
-  unfolding after resetTag waySlots wayMark
+  unfolding after resetTag waySlots wayMode
   is-ready bytes whole small =
       let written = written-owned 0x0000 bytes (omega arith) (omega arith) small in
       let happens = reset-happens (reached-sound (written .reached)) in
-      let wrote = writes-scratchpad s sound Way.skip 0x0000 bytes long (omega arith) (omega arith) small in
+      let wrote = writes-scratchpad s sound (Way.skip false) 0x0000 bytes long (omega arith) (omega arith) small in
       record {
         reset = record { before = told s (writeSlots 0x0000 bytes); reached = written .reached; reset = refl };
         holds = rw happens (written .holds);
@@ -159,5 +158,5 @@ module _ {number : ℕ} {image : List ℕ} {s : State} (o : Owned number image s
   unfolding after resetTag waySlots
   ready-counters bytes whole small =
       let written = written-owned 0x0000 bytes (omega arith) (omega arith) small in
-      let wrote = writes-scratchpad s sound Way.skip 0x0000 bytes long (omega arith) (omega arith) small in
+      let wrote = writes-scratchpad s sound (Way.skip false) 0x0000 bytes long (omega arith) (omega arith) small in
       rw (reset-happens (reached-sound (written .reached))) (ap (λ (r : Ran). r .state .tag .counters) wrote)

@@ -242,7 +242,7 @@ no-ticks bits = by (bitsOf 8 0xCC ++ bits)
 clearances-spoil : LeftToTicks first clearances → ⊥
 unfolding waySlots run
 clearances-spoil left =
-    let clear = clears (reset-reached (first-prepared .reset)) Way.skip owned (omega arith) owned-passes (first-prepared .idle) in
+    let clear = clears (reset-reached (first-prepared .reset)) (Way.skip false) owned (omega arith) owned-passes (first-prepared .idle) in
     let same = rw (no-ticks clearing) at (left .spoilt .bits 0x0214 7 (spared (eosc (first .image))) tt tt) in
     true≢false (sym first-bor ∙ sym same ∙ clear .1 .bor)
   where

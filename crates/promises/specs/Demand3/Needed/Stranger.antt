@@ -53,6 +53,7 @@ attempts =
 abbrev ticking : ℕ → Event → Event
 ticking reading (Event.slot bit) = Event.slot bit
 ticking reading Event.reset = Event.reset
+ticking reading Event.short = Event.short
 ticking reading (Event.tick other) = Event.tick reading
 
 abbrev pub stranger : ℕ → List Event
@@ -80,6 +81,7 @@ stranger-alike p q small-p small-q s t = alike-each (ticking p) (ticking q) alik
     alike : (e : Event) → Alike (ticking p e) (ticking q e)
     alike (Event.slot bit) = Alike.slots bit
     alike Event.reset = Alike.resets
+    alike Event.short = Alike.shorts
     alike (Event.tick other) = Alike.ticks p q small-p small-q
 
 -- ---- what he offers, computed

@@ -8,7 +8,7 @@ use Prim.Native.Nat.{ℕ}
 use borrow.Author.Tests.{eqb-true}
 use lib.Dec.{eqb}
 use Rattle.exchange.specs.declared.Exchange.{Exchange}
-use Rattle.exchange.specs.Exchange.{asks, slotOf, afterReset}
+use Rattle.exchange.specs.Exchange.{asks, slotOf, afterReset, afterShort}
 use Rattle.image.specs.Answers.{checked}
 use Rattle.image.specs.Answers.Laws.{control-refused, copy-refused, read-refused}
 use Rattle.image.specs.Registers.{mip, readPassword, fullPassword}
@@ -20,12 +20,12 @@ use Rattle.mission.specs.Mission.Frames.{mip-ticked, mip-forced}
 use Rattle.select.specs.declared.Choosing.{Choosing}
 use Rattle.select.specs.declared.Choosing.the-variants.{Silent, Command, Reading, Matching, Giving, Complementing, Awaiting, Selected}
 use Rattle.select.specs.Select.{isChosen, isSelected, endsCommand}
-use Rattle.event.specs.Event.{answerTo, slotted, resetTag, tickTag}
+use Rattle.event.specs.Event.{answerTo, slotted, resetTag, shortTag, tickTag}
 use Rattle.promises.specs.Demand3.{EndsField, Conditional, Alike, NoPassword, AlarmsAgree, Begins, Premises}
 use Rattle.promises.specs.Demand3.Left.{Guards, guards-checked, flag-stays, tick-cases, no-full}
 use Rattle.promises.specs.Demand3.Reset.{begins-guarded}
 use Rattle.promises.specs.Runs.{State, Event, after, run, Always, Together, OnSlots}
-use Rattle.promises.specs.Runs.Laws.{slot-happens, reset-happens, always-map, on-slots}
+use Rattle.promises.specs.Runs.Laws.{slot-happens, reset-happens, short-happens, always-map, on-slots}
 
 -- ---- what is computed
 
@@ -43,12 +43,14 @@ unfoldable pub asksHarmless : ℕ → Exchange → Event → Bool
 asksHarmless wrong x (Event.slot bit) = harmless wrong (asks x bit)
 asksHarmless wrong x Event.reset = true
 asksHarmless wrong x (Event.tick reading) = true
+asksHarmless wrong x Event.short = true
 
 -- the exchange after it, with the answer 0
 unfoldable pub denied : Exchange → Event → Exchange
 denied x (Event.slot bit) = slotOf x bit 0 .exchange
 denied x Event.reset = afterReset x
 denied x (Event.tick reading) = x
+denied x Event.short = afterShort x
 
 -- and over events one after the other
 unfoldable pub harmlessAll : ℕ → Exchange → List Event → Bool
@@ -92,7 +94,7 @@ conditional-unchosen x bit = by (x .select .choosing)
     by Silent e = refl
     by (Command heard count) e = refl
     by (Reading at) e = refl
-    by (Matching at) e = refl
+    by (Matching fast at) e = refl
     by (Giving at) e = refl
     by (Complementing at) e = refl
     by (Awaiting at) e = refl
@@ -105,6 +107,7 @@ harmless-unconditional wrong u (Event.slot bit) h =
     λ conditional. false≢true (rw (conditional-unchosen (u .tag .exchange) bit conditional, conditional) at h)
 harmless-unconditional wrong u Event.reset h = tt
 harmless-unconditional wrong u (Event.tick reading) h = tt
+harmless-unconditional wrong u Event.short h = tt
 
 -- ---- a tag with other passwords
 
@@ -136,6 +139,7 @@ no-password image wrong none u (Event.slot bit) h =
     λ field ends. let same = sym (harmless-field ends wrong h) in (λ e. none .0 (same ∙ e), λ e. none .1 (same ∙ e))
 no-password image wrong none u Event.reset h = tt
 no-password image wrong none u (Event.tick reading) h = tt
+no-password image wrong none u Event.short h = tt
 
 module _ (image : List ℕ) (mission : Bool) (wrong : ℕ) (none : NoneOf wrong image) where
   denies-after : (u : State) (e : Event) → Denies image mission u → Harmless wrong u e → Denies image mission (after u e)
@@ -145,11 +149,12 @@ module _ (image : List ℕ) (mission : Bool) (wrong : ℕ) (none : NoneOf wrong 
   -- and its exchange goes on with the answer 0
   exchange-after : (u : State) (e : Event) → Denies image mission u → Harmless wrong u e →
       after u e .tag .exchange ≡ denied (u .tag .exchange) e
-  unfolding after slotted resetTag tickTag denied asksHarmless
+  unfolding after slotted resetTag shortTag tickTag denied asksHarmless
   exchange-after u (Event.slot bit) (g, m) h =
       let others : NoneOf wrong (u .image) = (λ e. none .0 (e ∙ g .keys .read), λ e. none .1 (e ∙ g .keys .full)) in
       rw (slot-happens (g .sound) bit, harmless-answer (u .image) (u .tag .code) wrong _ (guards-checked g) others h)
   exchange-after u Event.reset (g, m) h = rw (reset-happens (g .sound))
+  exchange-after u Event.short (g, m) h = rw (short-happens (g .sound))
   exchange-after u (Event.tick reading) (g, m) h =
       tick-cases (g .sound) reading (λ v. v .tag .exchange ≡ u .tag .exchange) refl refl
 

@@ -1,0 +1,252 @@
+-- Overdrive: what a short reset leaves; which slots set the speed, over any events; and two tags that differ in it alone go on alike.
+-- Assumes nothing.
+use mathlib.Core.Path.{_≡_, refl, sym, ap, subst, _∙_}
+use mathlib.Core.Bool.{Bool, true, false, not, _||_, true≢false, or-true, or-false}
+use mathlib.Core.List.{List, [], _∷_, _++_, append-assoc}
+use mathlib.Core.Logic.{inl, inr, ⊎-elim, dite}
+use Prim.Native.Nat.{ℕ, _≤_}
+use native.Mathlib.Decide.{decLe}
+use native.Mathlib.Omega.{arith}
+use lib.Dec.{eqb, ltb}
+use lib.ListN.{length}
+use Rattle.answer.specs.declared.Answer.{Answer}
+use Rattle.bits.specs.Bits.{bitsOf, digit}
+use Rattle.bits.specs.Choose.{if_then_else_, choices}
+use Rattle.bus.specs.declared.Deed.{Deed}
+use Rattle.exchange.specs.declared.Exchange.{Exchange}
+use Rattle.exchange.specs.Exchange as exchange
+use Rattle.exchange.specs.Exchange.Laws as exchange-laws
+use Rattle.event.specs.Event.{answerTo, performed, performedCounters, slotted, resetTag, shortTag, tickTag}
+use Rattle.mission.specs.declared.Counters.{Counters}
+use Rattle.record.specs.Record.{Outcome, tagInRange, refusal}
+use Rattle.record.specs.Record.Laws.{ranges-of}
+use Rattle.select.specs.declared.Choosing.{Choosing}
+use Rattle.select.specs.declared.Choosing.the-variants.{Command}
+use Rattle.select.specs.Select.{choosingInRange}
+use Rattle.select.specs.Select.Speed.{leads, leads-none, leads-silent, leads-by, skip-leads, match-sets}
+use Rattle.tag.specs.Tag.{newTag, eventOf, step}
+use Rattle.tag.specs.Tag.Laws.{new-good, new-made}
+use Rattle.promises.specs.Line.Slots.{numberOf}
+use Rattle.promises.specs.Overdrive.{speedOf, withSpeed, ButSpeed, NoLong, NoShort, slotsIn, SetsSpeed, Overdrive}
+use Rattle.promises.specs.Runs.{State, Event, codeOf, readingOf, leaves, happens, after, lineBit, run, Reached}
+use Rattle.promises.specs.Runs.Laws.{Sound, reached-sound, sound-after, slot-happens, reset-happens, short-happens, tick-happens, tick-refused, number-after}
+
+-- ---- a short reset
+
+abbrev lineOf : Outcome → Bool
+lineOf o = o .answered .line
+
+-- what it leaves at standard speed, of the exchange, and at overdrive
+slow-exchange : (x : Exchange) → x .select .mode .speed ≡ false → exchange.afterShort x ≡ x
+slow-exchange x standard =
+    exchange-laws.short-cases (λ y. y ≡ x) x (λ overdrive. absurd (true≢false (sym overdrive ∙ standard))) (λ _. refl)
+
+fast-exchange : (x : Exchange) → x .select .mode .speed ≡ true → exchange.afterShort x ≡ exchange-laws.atSpeed true (exchange.afterReset x)
+fast-exchange x overdrive =
+    exchange-laws.short-cases (λ y. y ≡ exchange-laws.atSpeed true (exchange.afterReset x)) x
+    (λ fast i. record {
+      number = x .number;
+      select = record { choosing = Command 0 0; mode = record { mark = x .select .mode .mark; speed = fast i } };
+      held = x .held;
+      bus = exchange.afterReset x .bus;
+    })
+    (λ standard. absurd (true≢false (sym overdrive ∙ standard)))
+
+slow : {s : State} → Sound s → speedOf s ≡ false → (lineBit s Event.short ≡ true) × (after s Event.short ≡ s)
+unfolding after shortTag
+slow {s} sound standard = (
+  ap lineOf (short-happens sound) ∙ ap not standard,
+  rw (short-happens sound, slow-exchange (s .tag .exchange) standard),
+)
+
+fast : {s : State} → Sound s → speedOf s ≡ true →
+    (lineBit s Event.short ≡ false) × (after s Event.short ≡ withSpeed true (after s Event.reset))
+unfolding after shortTag resetTag
+fast {s} sound overdrive = (
+  ap lineOf (short-happens sound) ∙ ap not overdrive,
+  rw (short-happens sound, reset-happens sound, fast-exchange (s .tag .exchange) overdrive),
+)
+
+unread : (image : List ℕ) (tag : _) (reading : ℕ) → step image tag 4 reading ≡ step image tag 4 0
+unfolding step eventOf
+unread image tag reading = refl
+
+-- ---- which slots set the speed
+
+abbrev choosingOf : State → Choosing
+choosingOf s = s .tag .exchange .select .choosing
+
+in-range : {s : State} → Sound s → exchange.exchangeInRange (s .tag .exchange) ≡ true
+in-range {s} sound = ranges-of (s .tag) (sound .ranges) .line
+
+-- a tick leaves the exchange, valid or not
+tick-exchange : {s : State} → Sound s → (reading : ℕ) → after s (Event.tick reading) .tag .exchange ≡ s .tag .exchange
+unfolding after tickTag
+tick-exchange sound reading =
+    dite (decLe reading 2047) (λ small. rw (tick-happens sound reading small)) (λ high. rw (tick-refused sound reading (omega arith)))
+
+slot-speed : {s : State} → Sound s → (bit : Bool) (bits : List Bool) →
+    let next = after s (Event.slot bit) in
+    (leads (choosingOf s) (numberOf s) (bit ∷ bits) || speedOf s) ≡ (leads (choosingOf next) (numberOf s) bits || speedOf next)
+unfolding after slotted
+slot-speed {s} sound bit bits = rw (slot-happens sound bit) (exchange-laws.slot-leads (s .tag .exchange) bit _ bits (in-range sound))
+
+-- the speed after any events but long resets: those to come set it, or it was set
+speed-run : {s : State} → Sound s → (events : List Event) → NoLong events →
+    speedOf (run s events .state) ≡ (leads (choosingOf s) (numberOf s) (slotsIn events) || speedOf s)
+unfolding run NoLong slotsIn
+speed-run {s} sound [] none = sym (rw (leads-none (choosingOf s) (numberOf s) (exchange-laws.parts (s .tag .exchange) (in-range sound) .0)))
+speed-run {s} sound (Event.slot bit ∷ events) none =
+    speed-run (sound-after (Event.slot bit) sound) events none
+    ∙ ap (λ (n : ℕ). leads (choosingOf (after s (Event.slot bit))) n (slotsIn events) || speedOf (after s (Event.slot bit))) (number-after (Event.slot bit) sound)
+    ∙ sym (slot-speed sound bit (slotsIn events))
+speed-run sound (Event.reset ∷ events) none = absurd none
+speed-run {s} sound (Event.tick reading ∷ events) none =
+    speed-run (sound-after (Event.tick reading) sound) events none
+    ∙ ap (λ (x : Exchange). leads (x .select .choosing) (x .number) (slotsIn events) || x .select .mode .speed) (tick-exchange sound reading)
+speed-run {s} sound (Event.short ∷ events) none = by (speedOf s) refl (speed-run (sound-after Event.short sound) events none)
+  where
+    bits : List Bool
+    bits = slotsIn events
+
+    next : State
+    next = after s Event.short
+
+    by : (speed : Bool) → speedOf s ≡ speed → speedOf (run next events .state) ≡ (leads (choosingOf next) (numberOf next) bits || speedOf next) →
+        speedOf (run next events .state) ≡ (leads (choosingOf s) (numberOf s) bits || speedOf s)
+    by true e onward =
+        let set : speedOf next ≡ true = ap speedOf (fast sound e .1) in
+        onward ∙ ap (λ (b : Bool). leads (choosingOf next) (numberOf next) bits || b) set ∙ or-true (leads (choosingOf next) (numberOf next) bits)
+        ∙ sym (ap (λ (b : Bool). leads (choosingOf s) (numberOf s) bits || b) e ∙ or-true (leads (choosingOf s) (numberOf s) bits))
+    by false e onward = onward ∙ ap (λ (u : State). leads (choosingOf u) (numberOf u) bits || speedOf u) (slow sound e .1)
+
+-- from a long reset on
+reset-speed : {s : State} → Sound s → (events : List Event) → NoLong events →
+    speedOf (run s (Event.reset ∷ events) .state) ≡ leads (Command 0 0) (numberOf s) (slotsIn events)
+unfolding run after resetTag
+reset-speed {s} sound events none =
+    speed-run (sound-after Event.reset sound) events none ∙ rw (reset-happens sound) (or-false (leads (Command 0 0) (numberOf s) (slotsIn events)))
+
+new-slow : (image : List ℕ) (number code : ℕ) (accepted : newTag image number code .answered .answer ≡ Answer.Accepted) →
+    (events : List Event) → NoLong events → speedOf (run (leaves (newTag image number code)) events .state) ≡ false
+new-slow image number code accepted events none =
+    let good = new-good image number code accepted in
+    speed-run (reached-sound (Reached.new image number code accepted)) events none
+    ∙ rw (new-made image number code (good .0) (good .1) (good .2), leads-silent)
+
+-- ---- two tags that differ in the speed alone
+
+abbrev Goes : Outcome → Outcome → Type 0
+Goes o p = (o .answered .line ≡ p .answered .line) × ButSpeed (leaves o) (leaves p)
+
+-- what a deed does to the image has nothing to do with it
+performed-same : (deed : Deed) (speed : Bool) (x : Exchange) (c : Counters) (image : List ℕ) →
+    performed deed (exchange-laws.atSpeed speed x) c image ≡ performed deed x c image
+unfolding performed
+performed-same Deed.Nothing speed x c image = refl
+performed-same Deed.Store speed x c image = refl
+performed-same Deed.Clear speed x c image = refl
+performed-same Deed.Start speed x c image = refl
+performed-same Deed.Stop speed x c image = refl
+performed-same Deed.Convert speed x c image = refl
+
+slot-goes : (s : State) (speed bit : Bool) → Goes (slotted (s .image) (s .tag) bit) (slotted (s .image) (withSpeed speed s .tag) bit)
+unfolding slotted exchange.asks
+slot-goes s speed bit =
+    let x = s .tag .exchange in
+    let c = s .tag .counters in
+    let answer = answerTo (s .image) (s .tag .code) (exchange.asks x bit) in
+    let same = exchange-laws.slot-same x speed bit answer in
+    let a = exchange.slotOf x bit answer in
+    let b = exchange.slotOf (exchange-laws.atSpeed speed x) bit answer in
+    let left : performed (b .deed) (b .exchange) c (s .image) ≡ performed (a .deed) (a .exchange) c (s .image) =
+    ap (λ (d : Deed). performed d (b .exchange) c (s .image)) (sym (same .1))
+    ∙ ap (λ (y : Exchange). performed (a .deed) y c (s .image)) (same .2)
+    ∙ performed-same (a .deed) (b .exchange .select .mode .speed) (a .exchange) c (s .image) in (
+      same .0,
+      λ i. record {
+        image = left i;
+        tag = record { code = s .tag .code; counters = performedCounters (sym (same .1) i) c (s .image); exchange = same .2 i };
+      },
+    )
+
+-- an event that is no short reset
+event-goes : (s : State) (speed : Bool) (e : Event) → NoShort (e ∷ []) →
+    Goes (eventOf (s .image) (s .tag) (codeOf e) (readingOf e)) (eventOf (s .image) (withSpeed speed s .tag) (codeOf e) (readingOf e))
+unfolding eventOf resetTag tickTag NoShort
+event-goes s speed (Event.slot true) none = slot-goes s speed true
+event-goes s speed (Event.slot false) none = slot-goes s speed false
+event-goes s speed Event.reset none = (refl, refl)
+event-goes s speed (Event.tick reading) none = choices Goes (ltb 2047 reading) (refl, refl) (refl, refl)
+event-goes s speed Event.short none = absurd none
+
+step-goes : (s : State) (speed : Bool) (e : Event) → NoShort (e ∷ []) → Goes (happens s e) (happens (withSpeed speed s) e)
+unfolding step tagInRange
+step-goes s speed e none =
+    choices Goes (not (eqb (length (s .image)) 8832)) (refl, refl)
+    (choices Goes (not (tagInRange (s .tag))) (refl, refl) (event-goes s speed e none))
+
+-- and events with none among them, of which the first is none and the others are
+no-short : (e : Event) (events : List Event) → NoShort (e ∷ events) → NoShort (e ∷ []) × NoShort events
+unfolding NoShort
+no-short (Event.slot bit) events none = (tt, none)
+no-short Event.reset events none = (tt, none)
+no-short (Event.tick reading) events none = (tt, none)
+no-short Event.short events none = absurd none
+
+after-goes : (s t : State) (e : Event) → ButSpeed s t → NoShort (e ∷ []) → (lineBit s e ≡ lineBit t e) × ButSpeed (after s e) (after t e)
+unfolding after
+after-goes s t e but none = subst (λ (u : State). Goes (happens s e) (happens u e)) (sym but) (step-goes s (speedOf t) e none)
+
+unseen : (s t : State) → ButSpeed s t → (events : List Event) → NoShort events →
+    (run s events .line ≡ run t events .line) × ButSpeed (run s events .state) (run t events .state)
+unfolding run
+unseen s t but [] none = (refl, but)
+unseen s t but (e ∷ events) none =
+    let parts = no-short e events none in
+    let goes = after-goes s t e but (parts .0) in
+    let rest = unseen (after s e) (after t e) (goes .1) events (parts .1) in
+    (λ i. goes .0 i ∷ rest .0 i, rest .1)
+
+-- ---- together
+
+sets-speed : {s : State} → Sound s → (events : List Event) → NoLong events →
+    speedOf (run s (Event.reset ∷ events) .state) ≡ true → SetsSpeed (numberOf s) (slotsIn events)
+sets-speed {s} sound events none set =
+    ⊎-elim (λ skip. inl skip) (λ match. inr (match .0, match .1 ∙ sym (append-assoc (bitsOf 8 0x69) (bitsOf 64 (numberOf s)) (match .0))))
+    (leads-by (numberOf s) (slotsIn events) (sym (reset-speed sound events none) ∙ set))
+
+speed-set : {s : State} → Sound s → (events : List Event) → NoLong events →
+    SetsSpeed (numberOf s) (slotsIn events) → speedOf (run s (Event.reset ∷ events) .state) ≡ true
+speed-set {s} sound events none sets =
+    let number = numberOf s in
+    reset-speed sound events none
+    ∙ ⊎-elim (λ skip. ap (leads (Command 0 0) number) (skip .1) ∙ skip-leads number (skip .0))
+    (λ match. ap (leads (Command 0 0) number) (match .1 ∙ append-assoc (bitsOf 8 0x69) (bitsOf 64 number) (match .0)) ∙ match-sets number (match .0)) sets
+
+begun : {s : State} → Sound s → speedOf s ≡ true → (events : List Event) → NoShort events →
+    let long = run s (Event.reset ∷ events) in
+    let short = run s (Event.short ∷ events) in
+    (long .line ≡ short .line) × ButSpeed (long .state) (short .state)
+unfolding run resetTag
+begun {s} sound overdrive events none =
+    let short = fast sound overdrive in
+    let long : lineBit s Event.reset ≡ false = ap lineOf (reset-happens sound) in
+    let but : ButSpeed (after s Event.reset) (after s Event.short) =
+    short .1 ∙ ap (λ (v : Bool). withSpeed v (after s Event.reset)) (sym (ap speedOf (short .1))) in
+    let rest = unseen (after s Event.reset) (after s Event.short) but events none in
+    let bits : lineBit s Event.reset ≡ lineBit s Event.short = long ∙ sym (short .0) in
+    (λ i. bits i ∷ rest .0 i, rest .1)
+
+pub overdrive : Overdrive
+overdrive =
+    record {
+      slow = slow;
+      fast = fast;
+      unread = unread;
+      new = new-slow;
+      set = sets-speed;
+      only = speed-set;
+      unseen = unseen;
+      begun = begun;
+    }
