@@ -12,7 +12,7 @@ use Rattle.bus.specs.declared.Stage.{Stage}
 use Rattle.bus.specs.Bus.{clearBus}
 use Rattle.select.specs.declared.Choosing.the-variants.{Selected}
 use Rattle.select.specs.declared.Mode.{Mode}
-use Rattle.select.specs.Select.{keeps, unmarked}
+use Rattle.select.specs.Select.{modeOf, keeps, unmarked}
 use Rattle.select.specs.Runs.{searchWith, searchAnswers}
 use Rattle.select.specs.Runs.Laws.{matchByte, skipByte}
 use Rattle.exchange.specs.declared.Exchange.{Exchange}
@@ -80,6 +80,6 @@ wayLine (skip fast) number = bitsOf 8 (skipByte fast)
 -- the Resume mark and the speed after them, by the speed before: "a whole Match or either whole Search sets" the mark; 3Ch and 69h set the speed
 unfoldable pub wayMode : Way → Bool → Mode
 wayMode read speed = unmarked speed
-wayMode (match fast) speed = record { mark = true; speed = fast || speed }
-wayMode search speed = record { mark = true; speed = speed }
+wayMode (match fast) speed = modeOf true (fast || speed)
+wayMode search speed = modeOf true speed
 wayMode (skip fast) speed = unmarked (fast || speed)

@@ -51,13 +51,13 @@ Converted s bit = Forces (s .tag .exchange) bit × (mip (s .image) ≡ false)
 
 -- ---- the premises
 
--- 1. "two tags just after a reset", each reached from a new one by events
+-- 1. "two tags just after a reset", each reached from a new one by events; "the reset that the two tags start from is a long one"
 pub record JustReset (s : State) : Type 0 where
   pub before : State
   pub reached : Reached before
   pub reset : s ≡ after before Event.reset
 
--- 3. "the same slots and resets, and ticks at the same places with valid readings that may differ"
+-- 3. "the same slots and resets", of either kind, "and ticks at the same places with valid readings that may differ"
 pub data Alike : Event → Event → Type 0 where
   slots : (bit : Bool) → Alike (Event.slot bit) (Event.slot bit)
   resets : Alike Event.reset Event.reset

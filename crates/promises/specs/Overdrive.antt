@@ -4,7 +4,7 @@
 use mathlib.Core.Path.{_≡_}
 use mathlib.Core.Bool.{Bool, true, false}
 use mathlib.Core.List.{List, [], _∷_, _++_}
-use mathlib.Core.Logic.{_⊎_}
+use mathlib.Core.Logic.{_⊎_, _≢_}
 use Prim.Native.Nat.{ℕ}
 use Rattle.answer.specs.declared.Answer.{Answer}
 use Rattle.bits.specs.Bits.{bitsOf}
@@ -98,6 +98,8 @@ pub record Overdrive : Type 0 where
   -- it changes nothing else: for events with no short reset among them the bits are the same, and the states but for the speed
   pub unseen : (s t : State) → ButSpeed s t → (events : List Event) → NoShort events →
       (run s events .line ≡ run t events .line) × ButSpeed (run s events .state) (run t events .state)
+  -- short resets are where it is seen: among the events there must be none
+  pub seen : {s : State} → Sound s → lineBit (withSpeed true s) Event.short ≢ lineBit (withSpeed false s) Event.short
   -- so what is said of events begun by a long reset is said, at overdrive, of those begun by a short one
   pub begun : {s : State} → Sound s → speedOf s ≡ true → (events : List Event) → NoShort events →
       let long = run s (Event.reset ∷ events) in

@@ -16,12 +16,16 @@ pub mod Mark
 pub mod Speed
 pub mod Ranges
 
+-- the Resume mark, and the speed, true at overdrive
+abbrev pub modeOf : Bool → Bool → Mode
+modeOf mark speed = record { mark = mark; speed = speed }
+
 -- choosing goes on with this mode, and with the Resume mark cleared, at this speed
 abbrev pub keeps : Mode → Choosing → Select
 keeps mode choosing = record { choosing = choosing; mode = mode }
 
 abbrev pub unmarked : Bool → Mode
-unmarked speed = record { mark = false; speed = speed }
+unmarked speed = modeOf false speed
 
 abbrev pub clears : Bool → Choosing → Select
 clears speed choosing = keeps (unmarked speed) choosing
@@ -36,7 +40,7 @@ listening mode = keeps mode (Command 0 0)
 
 -- "Code 2 stays the long reset and clears the speed"; the mark stays
 abbrev pub standard : Mode → Mode
-standard mode = record { mark = mode .mark; speed = false }
+standard mode = modeOf (mode .mark) false
 
 abbrev pub resetSelect : Select → Select
 resetSelect select = listening (standard (select .mode))
@@ -76,7 +80,7 @@ readBit at mode = keeps mode (if ltb at 63 then Reading (following at) else Sele
 
 -- "a whole Match or either whole Search sets" the mark; a whole Match 69h, which is `fast`, the speed too
 abbrev pub whole : Bool → Mode → Mode
-whole fast mode = record { mark = true; speed = fast || mode .speed }
+whole fast mode = modeOf true (fast || mode .speed)
 
 -- Bit `at` of Match or Search is heard: the tag "drops out if it differs"; `next` follows while bits are left; a whole one goes on to
 -- memory commands.

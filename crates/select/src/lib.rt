@@ -2,7 +2,7 @@
 // It knows nothing of what a chosen tag does; once the tag is selected the memory commands are another crate's.
 // Every function answers any input, also a place past the last bit.
 ghost use mathlib.Core.Path.{_≡_};
-ghost use Rattle.select.specs.Select.{newSelect, resetSelect, restarted, slotOf, isSelected, asksAlarm, selectInRange, commandBit, romCommand, keeps, clears, whole, readBit, heardBit, following, sends};
+ghost use Rattle.select.specs.Select.{newSelect, resetSelect, restarted, slotOf, isSelected, asksAlarm, selectInRange, commandBit, romCommand, modeOf, keeps, whole, readBit, heardBit, following, sends};
 
 // Where the choosing of a tag stands.
 pub enum Choosing {
@@ -44,13 +44,7 @@ pub struct Chosen {
 pub fn waiting() -> Select
     ensures { λ r. ⌜ r ≡ newSelect ⌝ }
 {
-    Select {
-        choosing: Choosing::Silent,
-        mode: Mode {
-            mark: false,
-            speed: false,
-        },
-    }
+    keep(mode_of(false, false), Choosing::Silent)
 }
 
 // After a reset a ROM command is heard; only the Resume mark is kept.
@@ -58,13 +52,7 @@ pub fn reset(select: Select) -> Select
     ensures { λ r. ⌜ r ≡ resetSelect select ⌝ }
 {
     let mode = select.mode;
-    Select {
-        choosing: Choosing::Command(0, 0),
-        mode: Mode {
-            mark: mode.mark,
-            speed: false,
-        },
-    }
+    keep(mode_of(mode.mark, false), Choosing::Command(0, 0))
 }
 
 // After a short reset at overdrive too, and the speed is kept beside the mark.
@@ -72,10 +60,7 @@ pub fn restart(select: Select) -> Select
     ensures { λ r. ⌜ r ≡ restarted select ⌝ }
 {
     let mode = select.mode;
-    Select {
-        choosing: Choosing::Command(0, 0),
-        mode,
-    }
+    keep(mode_of(mode.mark, mode.speed), Choosing::Command(0, 0))
 }
 
 // Whether `select` keeps to its ranges.
@@ -165,6 +150,13 @@ fn send(own: bool, bit: bool, select: Select) -> Chosen
     }
 }
 
+// The Resume mark and the speed, as given.
+fn mode_of(mark: bool, speed: bool) -> Mode
+    ensures { λ r. ⌜ r ≡ modeOf mark speed ⌝ }
+{
+    Mode { mark, speed }
+}
+
 // How choosing goes on, with Resume mark and speed as given.
 fn keep(mode: Mode, choosing: Choosing) -> Select
     ensures { λ r. ⌜ r ≡ keeps mode choosing ⌝ }
@@ -188,28 +180,29 @@ fn command_bit(heard: u8, count: u8, mode: Mode, bit: bool, alarm: bool) -> Sele
 fn rom_command(byte: u8, mode: Mode, alarm: bool) -> Select
     ensures { λ r. ⌜ r ≡ romCommand byte mode alarm ⌝ }
 {
-    let speed = mode.speed;
+    let cleared = mode_of(false, mode.speed);
+    let fast = mode_of(false, true);
     match byte {
         // Read
-        0x33 => unmark(speed, Choosing::Reading(0)),
+        0x33 => keep(cleared, Choosing::Reading(0)),
         // Match
-        0x55 => unmark(speed, Choosing::Matching(false, 0)),
+        0x55 => keep(cleared, Choosing::Matching(false, 0)),
         // Overdrive Match, which sets the speed once it is whole
-        0x69 => unmark(speed, Choosing::Matching(true, 0)),
+        0x69 => keep(cleared, Choosing::Matching(true, 0)),
         // Search
-        0xF0 => unmark(speed, Choosing::Giving(0)),
+        0xF0 => keep(cleared, Choosing::Giving(0)),
         // Conditional Search, which only a tag with an alarm joins
         0xEC => {
             if alarm {
-                unmark(speed, Choosing::Giving(0))
+                keep(cleared, Choosing::Giving(0))
             } else {
-                unmark(speed, Choosing::Silent)
+                keep(cleared, Choosing::Silent)
             }
         }
         // Skip
-        0xCC => unmark(speed, Choosing::Selected),
+        0xCC => keep(cleared, Choosing::Selected),
         // Overdrive Skip
-        0x3C => unmark(true, Choosing::Selected),
+        0x3C => keep(fast, Choosing::Selected),
         // Resume
         0xA5 => {
             if mode.mark {
@@ -220,13 +213,6 @@ fn rom_command(byte: u8, mode: Mode, alarm: bool) -> Select
         }
         _ => keep(mode, Choosing::Silent),
     }
-}
-
-// How choosing goes on with the Resume mark cleared, at this speed.
-fn unmark(speed: bool, choosing: Choosing) -> Select
-    ensures { λ r. ⌜ r ≡ clears speed choosing ⌝ }
-{
-    keep(Mode { mark: false, speed }, choosing)
 }
 
 // The bit after bit `at`. After the last there is none; nobody goes there.

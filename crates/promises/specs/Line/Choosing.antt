@@ -17,7 +17,7 @@ use Rattle.exchange.specs.Runs.Laws.{alarmIn, run-choosing}
 use Rattle.select.specs.declared.Choosing.the-variants.{Silent, Command}
 use Rattle.select.specs.declared.Mode.{Mode}
 use Rattle.select.specs.declared.Select.{Select}
-use Rattle.select.specs.Select.{keeps, listening, romCommand}
+use Rattle.select.specs.Select.{modeOf, keeps, listening, romCommand}
 use Rattle.select.specs.Select.Mark.{joins, rom-unknown}
 use Rattle.select.specs.Runs as select
 use Rattle.select.specs.Runs.{searchWith, searchAnswers}
@@ -39,7 +39,7 @@ markOf s = s .tag .exchange .select .mode .mark
 
 -- with this Resume mark, at standard speed
 abbrev pub slowly : Bool → Mode
-slowly mark = record { mark = mark; speed = false }
+slowly mark = modeOf mark false
 
 -- the line carries these bits, nothing has changed but the bus state, and the tag is silent, with this Resume mark, at standard speed
 abbrev pub Passes : State → List Bool → Bool → Ran → Type 0

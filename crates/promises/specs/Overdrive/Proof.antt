@@ -3,7 +3,7 @@
 use mathlib.Core.Path.{_≡_, refl, sym, ap, subst, _∙_}
 use mathlib.Core.Bool.{Bool, true, false, not, _||_, true≢false, or-true, or-false}
 use mathlib.Core.List.{List, [], _∷_, _++_, append-assoc}
-use mathlib.Core.Logic.{inl, inr, ⊎-elim, dite}
+use mathlib.Core.Logic.{_≢_, inl, inr, ⊎-elim, dite}
 use Prim.Native.Nat.{ℕ, _≤_}
 use native.Mathlib.Decide.{decLe}
 use native.Mathlib.Omega.{arith}
@@ -208,6 +208,15 @@ unseen s t but (e ∷ events) none =
     let rest = unseen (after s e) (after t e) (goes .1) events (parts .1) in
     (λ i. goes .0 i ∷ rest .0 i, rest .1)
 
+-- where it is seen
+speed-sound : {s : State} (speed : Bool) → Sound s → Sound (withSpeed speed s)
+unfolding tagInRange
+speed-sound speed sound = record { size = sound .size; ranges = sound .ranges }
+
+seen : {s : State} → Sound s → lineBit (withSpeed true s) Event.short ≢ lineBit (withSpeed false s) Event.short
+seen sound same =
+    true≢false (sym (slow (speed-sound false sound) refl .0) ∙ sym same ∙ fast (speed-sound true sound) refl .0)
+
 -- ---- together
 
 sets-speed : {s : State} → Sound s → (events : List Event) → NoLong events →
@@ -248,5 +257,6 @@ overdrive =
       set = sets-speed;
       only = speed-set;
       unseen = unseen;
+      seen = seen;
       begun = begun;
     }

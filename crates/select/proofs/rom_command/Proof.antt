@@ -10,7 +10,7 @@ unfolding romCommand
 returns-11 c =
     let n = c .before .match .rest in
     simp (
-      c .keep3 .ensures,
+      c .keep11 .ensures,
       ne-eqb _ _ (n .0 .0 .0 .0 .0 .0 .0 .1),
       ne-eqb _ _ (n .0 .0 .0 .0 .0 .0 .1),
       ne-eqb _ _ (n .0 .0 .0 .0 .0 .1),
@@ -26,15 +26,15 @@ unfolding romCommand
 rom-command-spec =
     tie.close
     (tie.spec (search needs) (search needs) (search needs) (search needs) (search needs) (search needs) (search needs) (search needs)
-    (search needs) (search needs) (search needs)
-    (λ c. simp (c .unmark .ensures, c .before .match .keys1))
-    (λ c. simp (c .unmark2 .ensures, c .before .match .keys2))
-    (λ c. simp (c .unmark3 .ensures, c .before .match .keys3))
-    (λ c. simp (c .unmark4 .ensures, c .before .match .keys4))
-    (λ c. simp (c .unmark5 .ensures, c .before .before .match .keys5, c .before .if1 .taken))
-    (λ c. simp (c .unmark6 .ensures, c .before .before .match .keys5, c .before .if1 .left))
-    (λ c. simp (c .unmark7 .ensures, c .before .match .keys6))
-    (λ c. simp (c .unmark8 .ensures, c .before .match .keys7))
-    (λ c. simp (c .keep .ensures, c .before .before .match .keys8, c .before .if2 .taken))
-    (λ c. simp (c .keep2 .ensures, c .before .before .match .keys8, c .before .if2 .left))
+    (search needs) (search needs) (search needs) (search needs) (search needs)
+    (λ c. simp (c .keep .ensures, c .before .before .before .mode-of .ensures, c .before .match .keys1))
+    (λ c. simp (c .keep2 .ensures, c .before .before .before .mode-of .ensures, c .before .match .keys2))
+    (λ c. simp (c .keep3 .ensures, c .before .before .before .mode-of .ensures, c .before .match .keys3))
+    (λ c. simp (c .keep4 .ensures, c .before .before .before .mode-of .ensures, c .before .match .keys4))
+    (λ c. simp (c .keep5 .ensures, c .before .before .before .before .mode-of .ensures, c .before .before .match .keys5, c .before .if1 .taken))
+    (λ c. simp (c .keep6 .ensures, c .before .before .before .before .mode-of .ensures, c .before .before .match .keys5, c .before .if1 .left))
+    (λ c. simp (c .keep7 .ensures, c .before .before .before .mode-of .ensures, c .before .match .keys6))
+    (λ c. simp (c .keep8 .ensures, c .before .before .mode-of2 .ensures, c .before .match .keys7))
+    (λ c. simp (c .keep9 .ensures, c .before .before .match .keys8, c .before .if2 .taken))
+    (λ c. simp (c .keep10 .ensures, c .before .before .match .keys8, c .before .if2 .left))
     returns-11)

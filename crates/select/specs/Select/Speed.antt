@@ -16,7 +16,7 @@ use Rattle.bits.specs.Choose.{if_then_else_, either, choice, choices}
 use Rattle.bits.specs.Bits.{bitOf, bitsOf, numberOf, shiftIn, shiftAll}
 use Rattle.bits.specs.Bits.Laws.{length-bits, bits-number, number-lt, heard-whole, no-bits, bits-from}
 use Rattle.bits.specs.Tests.{or-cases, beq-eq}
-use Rattle.select.specs.Select.{keeps, clears, romCommand, commandBit, following, readBit, whole, heardBit, slotAt, slotOf, isChosen, choosingInRange}
+use Rattle.select.specs.Select.{modeOf, keeps, clears, romCommand, commandBit, following, readBit, whole, heardBit, slotAt, slotOf, isChosen, choosingInRange}
 use Rattle.select.specs.Select.Laws.{following-more, same-bit}
 use Rattle.select.specs.declared.Choosing.{Choosing}
 use Rattle.select.specs.declared.Choosing.the-variants.{Silent, Command, Reading, Matching, Giving, Complementing, Awaiting, Selected}
@@ -251,7 +251,7 @@ match-sets number rest = byte-leads number 0x69 (bitsOf 64 number ++ rest) (omeg
 
 -- the mode at another speed
 abbrev pub atSpeed : Bool → Mode → Mode
-atSpeed speed mode = record { mark = mode .mark; speed = speed }
+atSpeed speed mode = modeOf (mode .mark) speed
 
 -- choosing stands in the same place, with the same mark
 abbrev SameBut : Select → Select → Type 0

@@ -8,7 +8,7 @@ use Prim.Native.Nat.{ℕ, suc, _≤_}
 use lib.ListN.{take, drop}
 use Rattle.bits.specs.Bits.{bitOf, bitsOf, shiftIn, slotsOf}
 use Rattle.exchange.specs.declared.Exchange.{Exchange}
-use Rattle.exchange.specs.Exchange.{asks, slotOf}
+use Rattle.exchange.specs.Exchange.{asks, slotOf, afterShort}
 use Rattle.image.specs.Registers.{mip, passwordControl}
 use Rattle.bus.specs.declared.Control.{Control}
 use Rattle.bus.specs.declared.Guarded.{Guarded}
@@ -20,7 +20,7 @@ use Rattle.memory.specs.Hear.{commandStage, addressHeard, confirmed, heardWhole
 use Rattle.memory.specs.Memory as memory
 use Rattle.select.specs.Select as select
 use Rattle.promises.specs.Demand3.{EndsField, Forces, Converted, JustReset, Alike}
-use Rattle.promises.specs.Demand3.Needed.{Sometime, Offers, OffersCopy, Tried}
+use Rattle.promises.specs.Demand3.Needed.{Sometime, Offers, OffersCopy, Overdriven, Tried}
 use Rattle.promises.specs.Demand3.Needed.Owner.{skipping, waiting}
 use Rattle.promises.specs.Demand3.Needed.Walk.{harmless, asksHarmless, denied, harmlessAll, deniedAll, NoneOf, Denies, denies-run}
 use Rattle.promises.specs.Demand3.Reset.{begins-guarded}
@@ -39,14 +39,22 @@ field = 0x01 ∷ 0x02 ∷ 0x03 ∷ 0x04 ∷ 0x05 ∷ 0x06 ∷ 0x07 ∷ 0x08 ∷ 
 abbrev attempt : List ℕ → List Event
 attempt bytes = skipping (slotsOf bytes)
 
--- Copy with TA and E/S as held, Read Memory and eight slots more, Clear, Start, Stop, Forced Conversion; and two ticks in between
+-- the like with Overdrive Skip, and at overdrive with a short reset
+abbrev hurry : List ℕ → List Event
+hurry bytes = Event.reset ∷ map Event.slot (slotsOf (0x3C ∷ bytes))
+
+abbrev again : List ℕ → List Event
+again bytes = Event.short ∷ map Event.slot (slotsOf (0xCC ∷ bytes))
+
+-- a short reset that is nothing at all; Copy with TA and E/S as held, Read Memory and eight slots more; at overdrive Clear, Start and Stop;
+-- Forced Conversion; and two ticks in between
 abbrev attempts : List Event
 attempts =
-    attempt (0x99 ∷ 0x00 ∷ 0x00 ∷ 0x1F ∷ field) ++ (
+    Event.short ∷ attempt (0x99 ∷ 0x00 ∷ 0x00 ∷ 0x1F ∷ field) ++ (
     Event.tick 0 ∷ attempt (0x69 ∷ 0x00 ∷ 0x00 ∷ field ++ (0xFF ∷ [])) ++ (
-    attempt (0x96 ∷ field ++ (0xFF ∷ [])) ++ (
-    Event.tick 0 ∷ attempt (0xCC ∷ field ++ (0xFF ∷ [])) ++ (
-    attempt (0x33 ∷ field ++ (0xFF ∷ [])) ++
+    hurry (0x96 ∷ field ++ (0xFF ∷ [])) ++ (
+    Event.tick 0 ∷ again (0xCC ∷ field ++ (0xFF ∷ [])) ++ (
+    again (0x33 ∷ field ++ (0xFF ∷ [])) ++
     attempt (0x55 ∷ 0xFF ∷ [])))))
 
 -- with this reading at each tick
@@ -88,7 +96,7 @@ stranger-alike p q small-p small-q s t = alike-each (ticking p) (ticking q) alik
 
 -- nothing but the wrong field
 pub stranger-harmless : (number reading : ℕ) (pad : List ℕ) → harmlessAll wrong (waiting number pad) (stranger reading) ≡ true
-unfolding harmlessAll asksHarmless harmless denied asks slotOf memory.asks memory.stageAsks memory.slotOf memory.stageSlot
+unfolding harmlessAll asksHarmless harmless denied asks slotOf afterShort memory.asks memory.stageAsks memory.slotOf memory.stageSlot
     memory.onLine fieldAsks gatheredBit judged copies asHeld toTheEnd afterReading afterControlling heardBit heardWhole
     addressHeard commandStage confirmed statusByte select.slotOf select.slotAt select.commandBit select.romCommand select.isChosen
     select.endsCommand bitsOf bitOf shiftIn flatMap
@@ -178,16 +186,17 @@ module _ (number reading : ℕ) (pad : List ℕ) (s : State) (reset : JustReset 
 
   -- the places where the fields end, and at last FFh
   pub stranger-tried : Tried wrong s (stranger reading)
-  unfolding deniedAll denied slotOf memory.slotOf memory.stageSlot memory.onLine gatheredBit judged copies asHeld toTheEnd
+  unfolding deniedAll denied slotOf afterShort memory.slotOf memory.stageSlot memory.onLine gatheredBit judged copies asHeld toTheEnd
       afterReading afterControlling heardBit heardWhole addressHeard commandStage confirmed statusByte select.slotOf select.slotAt
       select.commandBit select.romCommand select.isChosen bitsOf bitOf shiftIn flatMap
   stranger-tried =
-      let converts = stands 503 true refl in
+      let converts = stands 504 true refl in
       record {
-        copy = comes (OffersCopy wrong) 104 false refl (offers Guarded.Copying 104 refl refl, rw (stands 104 false refl .1));
-        readMemory = tries Guarded.Reading 202 refl refl;
-        clear = tries (Guarded.Controlling Control.Clear) 291 refl refl;
-        start = tries (Guarded.Controlling Control.Start) 381 refl refl;
-        stop = tries (Guarded.Controlling Control.Stop) 470 refl refl;
-        convert = comes Converted 503 true refl (rw (converts .1) (forces-seen (standing 503) true refl), converts .0 .1);
+        copy = comes (OffersCopy wrong) 105 false refl (offers Guarded.Copying 105 refl refl, rw (stands 105 false refl .1));
+        readMemory = tries Guarded.Reading 203 refl refl;
+        clear = tries (Guarded.Controlling Control.Clear) 292 refl refl;
+        start = tries (Guarded.Controlling Control.Start) 382 refl refl;
+        stop = tries (Guarded.Controlling Control.Stop) 471 refl refl;
+        convert = comes Converted 504 true refl (rw (converts .1) (forces-seen (standing 504) true refl), converts .0 .1);
+        overdrive = comes Overdriven 471 false refl (rw (stands 471 false refl .1));
       }
