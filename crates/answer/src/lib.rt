@@ -6,7 +6,7 @@ ghost use Rattle.answer.specs.Answer.Laws.{placeOf};
 
 pub enum Answer {
     Accepted,
-    // An event code above 3, or a list's word that is no event.
+    // An event code above 4, or a list's word that is no event.
     EventCode,
     // A tick with a reading above 2047.
     Reading,

@@ -3,6 +3,7 @@
 //   :           a point begins, with a new tag; its name is the rest of the line
 //   #           the rest of the line is a comment
 //   R           a reset, which the tag answers
+//   O N         a short reset, which the tag answers at overdrive, and which is nothing at standard speed
 //   HH          a byte is sent
 //   =HH         a byte is read, and is this one
 //   XHH         right behind a byte: there are HH of it in all
@@ -78,6 +79,8 @@ pub(crate) fn calls_at(text: &[u8]) -> Calls {
     let c = peek(text, 0);
     match c {
         b'R' => alike(2, 0, 0, 0, 1),
+        b'O' => alike(4, 0, 0, 0, 1),
+        b'N' => alike(4, 0, 1, 0, 1),
         b'=' => alike(1, 0, number(text, 1, 2), 0, slots(text, 3)),
         b'+' => alike(1, 0, 1, 0, 1),
         b'-' => alike(0, 0, 0, 0, 1),
