@@ -7,6 +7,7 @@ use Rattle.bits.specs.Bits.{digit}
 use Rattle.exchange.specs.declared.Exchange.{Exchange}
 use Rattle.exchange.specs.declared.Slotted.{Slotted}
 use Rattle.exchange.specs.Exchange as exchange
+use Rattle.select.specs.Select.{speedIn}
 use Rattle.image.specs.Answers.{alarmed, mayRead, mayControl, mayCopy}
 use Rattle.image.specs.Sent.{sentAt}
 use Rattle.image.specs.Stored.{storedPage}
@@ -77,7 +78,7 @@ resetTag image tag = record { answered = present tag; image = image }
 abbrev pub shortened : Tag → Answered
 shortened tag =
     accepted (record { code = tag .code; counters = tag .counters; exchange = exchange.afterShort (tag .exchange) })
-    (not (tag .exchange .select .mode .speed))
+    (not (speedIn (tag .exchange .select .mode)))
 
 -- nor has that
 unfoldable pub shortTag : List ℕ → Tag → Outcome

@@ -50,7 +50,7 @@ pub fn short_reset(tag: Tag) -> Answered
 {
     let x = tag.exchange;
     let select = x.select;
-    let mode = select.mode;
+    let fast = select::overdrive(select);
     let counters = tag.counters;
     let exchange = exchange::short_reset(x);
     let next = Tag {
@@ -58,7 +58,7 @@ pub fn short_reset(tag: Tag) -> Answered
         counters,
         exchange,
     };
-    record::accept(next, !mode.speed)
+    record::accept(next, !fast)
 }
 
 // A tick of one second with its reading: bit 1.

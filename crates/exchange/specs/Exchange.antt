@@ -35,7 +35,7 @@ afterReset x = begun x (select.resetSelect (x .select))
 
 -- "a short reset: at overdrive a reset that keeps the speed, at standard speed nothing at all"
 unfoldable pub afterShort : Exchange → Exchange
-afterShort x = if x .select .mode .speed then begun x (select.restarted (x .select)) else x
+afterShort x = if select.speedIn (x .select .mode) then begun x (select.restarted (x .select)) else x
 
 -- what a slot asks of the image
 unfoldable pub asks : Exchange → Bool → Question

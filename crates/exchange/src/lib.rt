@@ -56,8 +56,8 @@ pub fn short_reset(x: Exchange) -> Exchange
     ensures { λ r. ⌜ r ≡ afterShort x ⌝ }
 {
     let before = x.select;
-    let mode = before.mode;
-    if mode.speed {
+    let fast = select::overdrive(before);
+    if fast {
         begin(x, select::restart(before))
     } else {
         x

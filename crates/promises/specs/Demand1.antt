@@ -23,6 +23,7 @@ use Rattle.dock.proofs.list_dump.Reads as list-dump
 use Rattle.record.specs.declared.Answered.{Answered}
 use Rattle.record.specs.declared.Tag.{Tag}
 use Rattle.record.specs.Record.{Outcome, refusal}
+use Rattle.select.specs.Select.{modeOf}
 use Rattle.tag.specs.Tag.{newImage, newTag, step}
 use Rattle.tag.specs.Tag.Laws.{answer-taken, step-refused, new-refused, new-good, new-made}
 use Rattle.tag.proofs.event.Reads as event
@@ -98,6 +99,7 @@ step-defined image tag code reading =
     record { answer = number; refusal = λ bad. given (step-refused image tag code reading (refuses number bad)) }
 
 new-defined : (image : List ℕ) (number code : ℕ) → Defined (newNumber image number code) image (clearTag 0 0) (newTag image number code)
+unfolding modeOf
 new-defined image number code =
     let counted = new-number image number code in
     record { answer = counted; refusal = λ bad. given (new-refused image number code (refuses counted bad)) }
@@ -112,7 +114,7 @@ allowed {number = number} {image = image} {tag = tag} p q d = (same p q, subst (
 
 new-cleared : (image : List ℕ) (number code : ℕ) → newTag image number code .answered .answer ≡ Answer.Accepted →
     (newTag image number code .answered .tag ≡ clearTag number code) × (newTag image number code .image ≡ set (replicate 8832 0) 0x0214 0x80)
-unfolding newImage
+unfolding newImage modeOf
 new-cleared image number code e =
     let good = new-good image number code e in
     rw (new-made image number code (good .0) (good .1) (good .2)) (refl, refl)

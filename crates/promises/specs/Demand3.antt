@@ -14,7 +14,7 @@ use Rattle.bus.specs.declared.Control.{Control}
 use Rattle.bus.specs.declared.Guarded.{Guarded}
 use Rattle.bus.specs.declared.Hearing.{Hearing}
 use Rattle.bus.specs.declared.Stage.{Stage}
-use Rattle.select.specs.Select.{isSelected, asksAlarm}
+use Rattle.select.specs.Select.{markIn, isSelected, asksAlarm}
 use Rattle.promises.specs.Alarms.{alarmFlag}
 use Rattle.promises.specs.Runs.{State, Event, after, run, ticksOf, Reached, Always, Together, OnSlots}
 pub mod Slot
@@ -82,7 +82,7 @@ pub record Begins (s t : State) (E F : List Event) : Type 0 where
   pub checked-t : passwordControl (t .image) ≡ 0xAA
   pub number : s .tag .exchange .number ≡ t .tag .exchange .number
   pub held : s .tag .exchange .held ≡ t .tag .exchange .held
-  pub mark : s .tag .exchange .select .mode .mark ≡ t .tag .exchange .select .mode .mark
+  pub mark : markIn (s .tag .exchange .select .mode) ≡ markIn (t .tag .exchange .select .mode)
   pub alike : Together (λ u e v f. Alike e f) s E t F
 
 -- premise 4: in neither run a field carries any of "their four passwords"

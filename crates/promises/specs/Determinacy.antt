@@ -72,6 +72,7 @@ pub record Determinacy : Type 2 where
   pub select-waiting : Sole select.waiting.Reads.Post (λ k r e. r)
   pub select-reset : Sole select.reset.Reads.Post (λ k r e. r)
   pub select-restart : Sole select.restart.Reads.Post (λ k r e. r)
+  pub select-overdrive : Sole select.overdrive.Reads.Post (λ k r e. r)
   pub select-in-range : Sole select.in_range.Reads.Post (λ k r e. r)
   pub select-selected : Sole select.selected.Reads.Post (λ k r e. r)
   pub select-asks-alarm : Sole select.asks_alarm.Reads.Post (λ k r e. r)
@@ -189,6 +190,7 @@ determinacy =
       select-waiting = λ k a r s e f p q. p ∙ sym q;
       select-reset = λ k a r s e f p q. p ∙ sym q;
       select-restart = λ k a r s e f p q. p ∙ sym q;
+      select-overdrive = λ k a r s e f p q. p ∙ sym q;
       select-in-range = λ k a r s e f p q. p ∙ sym q;
       select-selected = λ k a r s e f p q. p ∙ sym q;
       select-asks-alarm = λ k a r s e f p q. p ∙ sym q;

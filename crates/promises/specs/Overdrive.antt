@@ -9,6 +9,7 @@ use Prim.Native.Nat.{ℕ}
 use Rattle.answer.specs.declared.Answer.{Answer}
 use Rattle.bits.specs.Bits.{bitsOf}
 use Rattle.record.specs.declared.Tag.{Tag}
+use Rattle.select.specs.Select.{markIn, speedIn, modeOf}
 use Rattle.tag.specs.Tag.{newTag, step}
 use Rattle.promises.specs.Line.Slots.{numberOf}
 use Rattle.promises.specs.Runs.{State, Event, leaves, after, lineBit, run}
@@ -19,7 +20,7 @@ pub mod Proof
 
 -- "The bus record gains a speed": true at overdrive
 abbrev pub speedOf : State → Bool
-speedOf s = s .tag .exchange .select .mode .speed
+speedOf s = speedIn (s .tag .exchange .select .mode)
 
 -- the same tag at this speed
 abbrev pub withSpeed : Bool → State → State
@@ -32,7 +33,7 @@ withSpeed speed s =
         counters = s .tag .counters;
         exchange = record {
           number = x .number;
-          select = record { choosing = x .select .choosing; mode = record { mark = x .select .mode .mark; speed = speed } };
+          select = record { choosing = x .select .choosing; mode = modeOf (markIn (x .select .mode)) speed };
           held = x .held;
           bus = x .bus;
         };

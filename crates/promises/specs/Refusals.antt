@@ -14,6 +14,7 @@ use Rattle.dump.specs.Lines.{pageOf, lineAt, bytesIn, dumpedAt}
 use Rattle.exchange.specs.Exchange.{exchangeInRange}
 use Rattle.bus.specs.declared.Stage.{Stage}
 use Rattle.select.specs.declared.Choosing.the-variants.{Silent}
+use Rattle.select.specs.declared.Mode.the-variants.{Plain}
 use Rattle.record.specs.declared.Tag.{Tag}
 pub mod Laws
 
@@ -44,7 +45,7 @@ clearTag number code =
       counters = record { reading = 0; minute = 0; wait = 0 };
       exchange = record {
         number = number;
-        select = record { choosing = Silent; mode = record { mark = false; speed = false } };
+        select = record { choosing = Silent; mode = Plain };
         held = record { pad = replicate 32 0; ta = 0; ending = 0; pf = false; aa = false };
         bus = record { stage = Stage.Over; byte = 0; at = 0; crc = 0; address = 0; status = 0; field = 0 };
       };

@@ -5,7 +5,6 @@ use bus::Bus;
 use bus::Held;
 use exchange::Exchange;
 use mission::Counters;
-use select::Mode;
 use select::Select;
 ghost use mathlib.Core.Path.{_≡_};
 ghost use Rattle.record.specs.Record.{goodNumber, goodCode, tagInRange, freshTag, accepted, refused};
@@ -106,11 +105,7 @@ fn afresh(tag: Tag) -> Tag
     let x = tag.exchange;
     let s = x.select;
     let choosing = s.choosing;
-    let m = s.mode;
-    let mode = Mode {
-        mark: m.mark,
-        speed: m.speed,
-    };
+    let mode = s.mode;
     let select = Select { choosing, mode };
     let h = x.held;
     let pad = h.pad;

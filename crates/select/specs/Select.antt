@@ -16,9 +16,25 @@ pub mod Mark
 pub mod Speed
 pub mod Ranges
 
--- the Resume mark, and the speed, true at overdrive
-abbrev pub modeOf : Bool → Bool → Mode
-modeOf mark speed = record { mark = mark; speed = speed }
+-- the Resume mark, and the speed, true at overdrive: "The bus record gains a speed"
+unfoldable pub markIn : Mode → Bool
+markIn Mode.Plain = false
+markIn Mode.Marked = true
+markIn Mode.Overdrive = false
+markIn Mode.OverdriveMarked = true
+
+unfoldable pub speedIn : Mode → Bool
+speedIn Mode.Plain = false
+speedIn Mode.Marked = false
+speedIn Mode.Overdrive = true
+speedIn Mode.OverdriveMarked = true
+
+-- with this mark and this speed
+unfoldable pub modeOf : Bool → Bool → Mode
+modeOf false false = Mode.Plain
+modeOf true false = Mode.Marked
+modeOf false true = Mode.Overdrive
+modeOf true true = Mode.OverdriveMarked
 
 -- choosing goes on with this mode, and with the Resume mark cleared, at this speed
 abbrev pub keeps : Mode → Choosing → Select
@@ -40,7 +56,7 @@ listening mode = keeps mode (Command 0 0)
 
 -- "Code 2 stays the long reset and clears the speed"; the mark stays
 abbrev pub standard : Mode → Mode
-standard mode = modeOf (mode .mark) false
+standard mode = modeOf (markIn mode) false
 
 abbrev pub resetSelect : Select → Select
 resetSelect select = listening (standard (select .mode))
@@ -54,14 +70,14 @@ restarted select = listening (select .mode)
 -- whole number matches". `alarm` is whether BOR, THF or TLF is 1 as the byte ends.
 unfoldable pub romCommand : ℕ → Mode → Bool → Select
 romCommand byte mode alarm =
-    if eqb byte 0x33 then clears (mode .speed) (Reading 0)  -- Read
-    else if eqb byte 0x55 then clears (mode .speed) (Matching false 0)  -- Match
-    else if eqb byte 0x69 then clears (mode .speed) (Matching true 0)  -- Overdrive Match
-    else if eqb byte 0xF0 then clears (mode .speed) (Giving 0)  -- Search
-    else if eqb byte 0xEC then clears (mode .speed) (if alarm then Giving 0 else Silent)  -- Conditional Search
-    else if eqb byte 0xCC then clears (mode .speed) Selected  -- Skip
+    if eqb byte 0x33 then clears (speedIn mode) (Reading 0)  -- Read
+    else if eqb byte 0x55 then clears (speedIn mode) (Matching false 0)  -- Match
+    else if eqb byte 0x69 then clears (speedIn mode) (Matching true 0)  -- Overdrive Match
+    else if eqb byte 0xF0 then clears (speedIn mode) (Giving 0)  -- Search
+    else if eqb byte 0xEC then clears (speedIn mode) (if alarm then Giving 0 else Silent)  -- Conditional Search
+    else if eqb byte 0xCC then clears (speedIn mode) Selected  -- Skip
     else if eqb byte 0x3C then clears true Selected  -- Overdrive Skip
-    else if eqb byte 0xA5 then keeps mode (if mode .mark then Selected else Silent)  -- Resume
+    else if eqb byte 0xA5 then keeps mode (if markIn mode then Selected else Silent)  -- Resume
     else keeps mode Silent  -- "Any other byte: silent until reset"
 
 -- One more bit of the command byte, "low bit first"; the eighth makes it whole.
@@ -80,7 +96,7 @@ readBit at mode = keeps mode (if ltb at 63 then Reading (following at) else Sele
 
 -- "a whole Match or either whole Search sets" the mark; a whole Match 69h, which is `fast`, the speed too
 abbrev pub whole : Bool → Mode → Mode
-whole fast mode = modeOf true (fast || mode .speed)
+whole fast mode = modeOf true (fast || speedIn mode)
 
 -- Bit `at` of Match or Search is heard: the tag "drops out if it differs"; `next` follows while bits are left; a whole one goes on to
 -- memory commands.

@@ -2,7 +2,7 @@
 // It knows nothing of what a chosen tag does; once the tag is selected the memory commands are another crate's.
 // Every function answers any input, also a place past the last bit.
 ghost use mathlib.Core.Path.{_≡_};
-ghost use Rattle.select.specs.Select.{newSelect, resetSelect, restarted, slotOf, isSelected, asksAlarm, selectInRange, commandBit, romCommand, modeOf, keeps, whole, readBit, heardBit, following, sends};
+ghost use Rattle.select.specs.Select.{markIn, speedIn, modeOf, newSelect, resetSelect, restarted, slotOf, isSelected, asksAlarm, selectInRange, commandBit, romCommand, keeps, whole, readBit, heardBit, following, sends};
 
 // Where the choosing of a tag stands.
 pub enum Choosing {
@@ -22,10 +22,16 @@ pub enum Choosing {
     Selected,
 }
 
-// What outlasts a ROM command: the Resume mark, and the speed, true at overdrive.
-pub struct Mode {
-    pub mark: bool,
-    pub speed: bool,
+// What outlasts a ROM command: the Resume mark and the speed, in one byte, so that a record is copied in whole words (bench/README.md).
+pub enum Mode {
+    // standard speed, no mark
+    Plain,
+    // standard speed, marked
+    Marked,
+    // overdrive, no mark
+    Overdrive,
+    // overdrive, marked
+    OverdriveMarked,
 }
 
 // What choosing keeps from slot to slot, and `mode` from reset to reset.
@@ -52,7 +58,7 @@ pub fn reset(select: Select) -> Select
     ensures { λ r. ⌜ r ≡ resetSelect select ⌝ }
 {
     let mode = select.mode;
-    keep(mode_of(mode.mark, false), Choosing::Command(0, 0))
+    keep(mode_of(marked(mode), false), Choosing::Command(0, 0))
 }
 
 // After a short reset at overdrive too, and the speed is kept beside the mark.
@@ -60,7 +66,15 @@ pub fn restart(select: Select) -> Select
     ensures { λ r. ⌜ r ≡ restarted select ⌝ }
 {
     let mode = select.mode;
-    keep(mode_of(mode.mark, mode.speed), Choosing::Command(0, 0))
+    keep(mode, Choosing::Command(0, 0))
+}
+
+// Whether the tag is at overdrive.
+pub fn overdrive(select: Select) -> bool
+    ensures { λ r. ⌜ r ≡ speedIn (select .mode) ⌝ }
+{
+    let mode = select.mode;
+    fast(mode)
 }
 
 // Whether `select` keeps to its ranges.
@@ -120,9 +134,9 @@ pub fn slot(select: Select, number: u64, bit: bool, alarm: bool) -> Chosen
             send(true, bit, next)
         }
         Choosing::Reading(at) => send(bits::bit(number, at), bit, read_bit(at, mode)),
-        Choosing::Matching(fast, at) => {
-            let next = Choosing::Matching(fast, following(at));
-            send(true, bit, hear_bit(number, at, bit, next, fast, mode))
+        Choosing::Matching(overdrive, at) => {
+            let next = Choosing::Matching(overdrive, following(at));
+            send(true, bit, hear_bit(number, at, bit, next, overdrive, mode))
         }
         Choosing::Giving(at) => {
             let next = keep(mode, Choosing::Complementing(at));
@@ -150,11 +164,43 @@ fn send(own: bool, bit: bool, select: Select) -> Chosen
     }
 }
 
-// The Resume mark and the speed, as given.
+// Resume mark and speed as given.
 fn mode_of(mark: bool, speed: bool) -> Mode
     ensures { λ r. ⌜ r ≡ modeOf mark speed ⌝ }
 {
-    Mode { mark, speed }
+    if speed {
+        if mark {
+            Mode::OverdriveMarked
+        } else {
+            Mode::Overdrive
+        }
+    } else {
+        if mark { Mode::Marked } else { Mode::Plain }
+    }
+}
+
+// The Resume mark.
+fn marked(mode: Mode) -> bool
+    ensures { λ r. ⌜ r ≡ markIn mode ⌝ }
+{
+    match mode {
+        Mode::Plain => false,
+        Mode::Marked => true,
+        Mode::Overdrive => false,
+        Mode::OverdriveMarked => true,
+    }
+}
+
+// The speed: whether it is overdrive.
+fn fast(mode: Mode) -> bool
+    ensures { λ r. ⌜ r ≡ speedIn mode ⌝ }
+{
+    match mode {
+        Mode::Plain => false,
+        Mode::Marked => false,
+        Mode::Overdrive => true,
+        Mode::OverdriveMarked => true,
+    }
 }
 
 // How choosing goes on, with Resume mark and speed as given.
@@ -180,8 +226,8 @@ fn command_bit(heard: u8, count: u8, mode: Mode, bit: bool, alarm: bool) -> Sele
 fn rom_command(byte: u8, mode: Mode, alarm: bool) -> Select
     ensures { λ r. ⌜ r ≡ romCommand byte mode alarm ⌝ }
 {
-    let cleared = mode_of(false, mode.speed);
-    let fast = mode_of(false, true);
+    let cleared = mode_of(false, fast(mode));
+    let overdrive = mode_of(false, true);
     match byte {
         // Read
         0x33 => keep(cleared, Choosing::Reading(0)),
@@ -202,10 +248,10 @@ fn rom_command(byte: u8, mode: Mode, alarm: bool) -> Select
         // Skip
         0xCC => keep(cleared, Choosing::Selected),
         // Overdrive Skip
-        0x3C => keep(fast, Choosing::Selected),
+        0x3C => keep(overdrive, Choosing::Selected),
         // Resume
         0xA5 => {
-            if mode.mark {
+            if marked(mode) {
                 keep(mode, Choosing::Selected)
             } else {
                 keep(mode, Choosing::Silent)
@@ -233,16 +279,16 @@ fn read_bit(at: u8, mode: Mode) -> Select
     }
 }
 
-// Match or Search, once bit `at` is heard: `next` while bits are left. `fast` is an overdrive Match.
-fn hear_bit(number: u64, at: u8, bit: bool, next: Choosing, fast: bool, mode: Mode) -> Select
-    ensures { λ r. ⌜ r ≡ heardBit number at bit next fast mode ⌝ }
+// Match or Search, once bit `at` is heard: `next` while bits are left. `overdrive` is of an overdrive Match.
+fn hear_bit(number: u64, at: u8, bit: bool, next: Choosing, overdrive: bool, mode: Mode) -> Select
+    ensures { λ r. ⌜ r ≡ heardBit number at bit next overdrive mode ⌝ }
 {
     let own = bits::bit(number, at);
     if own == bit {
         if at < 63 {
             keep(mode, next)
         } else {
-            keep(whole(fast, mode), Choosing::Selected)
+            keep(whole(overdrive, mode), Choosing::Selected)
         }
     } else {
         keep(mode, Choosing::Silent)
@@ -250,11 +296,12 @@ fn hear_bit(number: u64, at: u8, bit: bool, next: Choosing, fast: bool, mode: Mo
 }
 
 // A whole Match or Search sets the mark, an overdrive Match the speed too.
-fn whole(fast: bool, mode: Mode) -> Mode
-    ensures { λ r. ⌜ r ≡ whole fast mode ⌝ }
+fn whole(overdrive: bool, mode: Mode) -> Mode
+    ensures { λ r. ⌜ r ≡ whole overdrive mode ⌝ }
 {
-    Mode {
-        mark: true,
-        speed: if fast { true } else { mode.speed },
+    if overdrive {
+        mode_of(true, true)
+    } else {
+        mode_of(true, fast(mode))
     }
 }

@@ -8,6 +8,6 @@ pub short-reset-spec : {M : Type 1} → statement M
 unfolding afterShort
 short-reset-spec =
     tie.close
-    (tie.spec (search needs) (search needs)
-    (λ c. simp (c .begin .ensures, c .before .restart .ensures, c .before .before .if1 .taken))
-    (λ c. simp (c .if1 .left)))
+    (tie.spec (search needs) (search needs) (search needs)
+    (λ c. simp (c .begin .ensures, c .before .restart .ensures, ← c .before .before .before .overdrive .ensures, c .before .before .if1 .taken))
+    (λ c. simp (← c .before .overdrive .ensures, c .if1 .left)))

@@ -1,11 +1,12 @@
 -- What demand 3 of the order rests on: two tags whose exchanges are equal go on alike as long as no password field lets them
 -- pass, and do nothing but Forced Conversions. Assumes nothing.
-use mathlib.Core.Path.{_≡_, refl, sym, ap}
+use mathlib.Core.Path.{_≡_, refl, sym, ap, _∙_}
 use mathlib.Core.Bool.{Bool, true, false, _||_, and-eq-true-iff}
 use mathlib.Core.List.{List, _∷_}
 use Prim.Native.Nat.{ℕ}
 use lib.Dec.{eqb}
 use Rattle.bits.specs.Choose.{if_then_else_, either, choices}
+use Rattle.bus.specs.declared.Moved.{Moved}
 use Rattle.bus.specs.declared.Question.{Question}
 use Rattle.memory.specs.Memory as memory
 use Rattle.memory.specs.Phases.{opened, reading, writing, confirms, lets, letsWrite, unguarded}
@@ -14,7 +15,7 @@ use Rattle.memory.specs.Phases.Laws as phases
 use Rattle.select.specs.declared.Mode.{Mode}
 use Rattle.select.specs.declared.Select.{Select}
 use Rattle.select.specs.Select as select
-use Rattle.select.specs.Select.Laws.{slots-agree}
+use Rattle.select.specs.Select.Laws.{speed-of, mode-of, slots-agree}
 use Rattle.select.specs.Select.Ranges as select-ranges
 use Rattle.select.specs.Select.Speed as speeds
 use Rattle.memory.specs.Range.{memoryInRange}
@@ -26,7 +27,7 @@ use Rattle.exchange.specs.Exchange.{newExchange, begun, afterReset, afte
 -- ---- resets
 
 -- what a reset leaves is fixed by number, Resume mark, scratchpad, TA and E/S
-pub reset-agree : (x y : Exchange) → x .number ≡ y .number → x .select .mode .mark ≡ y .select .mode .mark → x .held ≡ y .held → afterReset x ≡ afterReset y
+pub reset-agree : (x y : Exchange) → x .number ≡ y .number → select.markIn (x .select .mode) ≡ select.markIn (y .select .mode) → x .held ≡ y .held → afterReset x ≡ afterReset y
 reset-agree x y n m h = cc
 
 -- after it no password has led anywhere
@@ -36,9 +37,10 @@ begun-shut x next = refl
 
 -- what holds of a reset and of nothing at all holds of a short reset, each at its speed
 pub short-cases : (P : Exchange → Type 0) (x : Exchange) →
-    (x .select .mode .speed ≡ true → P (begun x (select.restarted (x .select)))) → (x .select .mode .speed ≡ false → P x) → P (afterShort x)
+    (select.speedIn (x .select .mode) ≡ true → P (begun x (select.restarted (x .select)))) → (select.speedIn (x .select .mode) ≡ false → P x) →
+    P (afterShort x)
 unfolding afterShort
-short-cases P x fast slow = either P (x .select .mode .speed) fast slow
+short-cases P x fast slow = either P (select.speedIn (x .select .mode)) fast slow
 
 -- like a reset it leaves number, scratchpad, TA and E/S
 pub short-number : (x : Exchange) → afterShort x .number ≡ x .number
@@ -136,40 +138,54 @@ atSpeed speed x =
 -- two slots that give the same bit and do the same, and whose exchanges differ at most in the speed
 abbrev pub SameSlot : Slotted → Slotted → Type 0
 SameSlot a b =
-    (a .line ≡ b .line) × (a .deed ≡ b .deed) × (b .exchange ≡ atSpeed (b .exchange .select .mode .speed) (a .exchange))
+    (a .line ≡ b .line) × (a .deed ≡ b .deed) × (b .exchange ≡ atSpeed (select.speedIn (b .exchange .select .mode)) (a .exchange))
+
+-- of a memory command, whose slots leave the mode
+commanded-same : (x : Exchange) (speed : Bool) (m : Moved) → SameSlot (commanded x m) (commanded (atSpeed speed x) m)
+commanded-same x speed m =
+    let mark = select.markIn (x .select .mode) in (
+      refl,
+      refl,
+      λ i. record {
+        number = x .number;
+        select = record { choosing = x .select .choosing; mode = select.modeOf mark (sym (speed-of mark speed) i) };
+        held = m .held;
+        bus = m .bus;
+      },
+    )
+
+-- and of choosing
+choosing-same : (x : Exchange) (speed bit alarm : Bool) →
+    SameSlot (choosing x (select.slotOf (x .select) (x .number) bit alarm))
+    (choosing (atSpeed speed x) (select.slotOf (atSpeed speed x .select) (x .number) bit alarm))
+choosing-same x speed bit alarm =
+    let a = select.slotOf (x .select) (x .number) bit alarm .select in
+    let b = select.slotOf (atSpeed speed x .select) (x .number) bit alarm .select in
+    let same = speeds.slot-same (x .select) speed (x .number) bit alarm in
+    let mode : b .mode ≡ select.modeOf (select.markIn (a .mode)) (select.speedIn (b .mode)) =
+    sym (mode-of (b .mode)) ∙ ap (λ (m : Bool). select.modeOf m (select.speedIn (b .mode))) (sym (same .1 .1)) in (
+      same .0,
+      refl,
+      λ i. record { number = x .number; select = record { choosing = sym (same .1 .0) i; mode = mode i }; held = x .held; bus = x .bus },
+    )
 
 pub slot-same : (x : Exchange) (speed bit : Bool) (answer : ℕ) → SameSlot (slotOf x bit answer) (slotOf (atSpeed speed x) bit answer)
 unfolding slotOf
 slot-same x speed bit answer =
-    let same = speeds.slot-same (x .select) speed (x .number) bit (eqb answer 1) in
-    choices SameSlot (select.isSelected (x .select)) (refl, refl, refl) (
-      same .0,
-      refl,
-      λ i. record {
-        number = x .number;
-        select = record {
-          choosing = sym (same .1 .0) i;
-          mode = record {
-            mark = sym (same .1 .1) i;
-            speed = select.slotOf (select.keeps (speeds.atSpeed speed (x .select .mode)) (x .select .choosing)) (x .number) bit (eqb answer 1) .select .mode .speed;
-          };
-        };
-        held = x .held;
-        bus = x .bus;
-      },
-    )
+    choices SameSlot (select.isSelected (x .select))
+    (commanded-same x speed (memory.slotOf (x .held) (x .bus) bit answer)) (choosing-same x speed bit (eqb answer 1))
 
 -- what the slots to come set, a slot has set or leaves to those after it
 pub slot-leads : (x : Exchange) (bit : Bool) (answer : ℕ) (bits : List Bool) → exchangeInRange x ≡ true →
     let next = slotOf x bit answer .exchange .select in
-    (speeds.leads (x .select .choosing) (x .number) (bit ∷ bits) || x .select .mode .speed) ≡
-    (speeds.leads (next .choosing) (x .number) bits || next .mode .speed)
+    (speeds.leads (x .select .choosing) (x .number) (bit ∷ bits) || select.speedIn (x .select .mode)) ≡
+    (speeds.leads (next .choosing) (x .number) bits || select.speedIn (next .mode))
 unfolding slotOf
 slot-leads x bit answer bits h =
     let k = x .select .choosing in
     either
-    (λ (s : Slotted). (speeds.leads k (x .number) (bit ∷ bits) || x .select .mode .speed) ≡
-    (speeds.leads (s .exchange .select .choosing) (x .number) bits || s .exchange .select .mode .speed))
+    (λ (s : Slotted). (speeds.leads k (x .number) (bit ∷ bits) || select.speedIn (x .select .mode)) ≡
+    (speeds.leads (s .exchange .select .choosing) (x .number) bits || select.speedIn (s .exchange .select .mode)))
     (select.isSelected (x .select))
     (λ chosen. rw (speeds.leads-chosen k (x .number) (bit ∷ bits) chosen, speeds.leads-chosen k (x .number) bits chosen))
     (λ _. speeds.slot-leads (x .select) (x .number) bit (eqb answer 1) bits (parts x h .0))

@@ -11,13 +11,14 @@ use Rattle.bits.specs.Bits.Laws.{length-bits}
 use Rattle.bus.specs.declared.Question.{Question}
 use Rattle.select.specs.declared.Choosing.the-variants.{Selected}
 use Rattle.select.specs.declared.Mode.{Mode}
-use Rattle.select.specs.Select.{listening, romCommand, keeps}
+use Rattle.select.specs.Select.{markIn, speedIn, standard, listening, romCommand, keeps}
+use Rattle.select.specs.Select.Laws.{speed-of}
 use Rattle.select.specs.Select.Mark.{joins}
 use Rattle.select.specs.Runs as select-runs
 use Rattle.select.specs.Runs.Laws.{matchByte, match-lt, rom-match, run-read, run-match, run-search, run-skip}
 use Rattle.select.specs.Runs.Through.{Lasts, choosing-through}
 use Rattle.exchange.specs.declared.Exchange.{Exchange}
-use Rattle.exchange.specs.Exchange.{begun}
+use Rattle.exchange.specs.Exchange.{begun, afterReset}
 use Rattle.exchange.specs.Runs.{run, quietly, chosen, Way, waySlots, wayLine, wayMode}
 use Rattle.exchange.specs.Runs.Way.{read, match, search, skip}
 use Rattle.exchange.specs.Runs.Laws.{alarmIn, run-choosing}
@@ -38,7 +39,7 @@ length-search (choice ∷ choices) = omega (arith, length-search choices)
 -- each of the ways chooses the tag, and sets or clears the Resume mark and the speed; scratchpad, TA and E/S stay
 pub run-way : (answers : Question → ℕ) (x : Exchange) (mode : Mode) (way : Way) →
     run answers (begun x (listening mode)) (waySlots way (x .number)) ≡
-    quietly (chosen (x .number) (wayMode way (mode .speed)) (x .held)) (wayLine way (x .number))
+    quietly (chosen (x .number) (wayMode way (speedIn mode)) (x .held)) (wayLine way (x .number))
 unfolding waySlots wayLine wayMode romCommand Lasts joins bitsOf
 run-way answers x mode read =
     chosen-by answers x mode 0x33 (released 64) (omega arith) (omega arith) (run-read mode (x .number) (alarmIn answers))
@@ -51,3 +52,8 @@ run-way answers x mode search =
     (run-search mode (x .number) 0xF0 (alarmIn answers) (omega arith) refl)
 run-way answers x mode (skip false) = chosen-by answers x mode 0xCC [] (omega arith) refl (run-skip mode (x .number) (alarmIn answers) false)
 run-way answers x mode (skip true) = chosen-by answers x mode 0x3C [] (omega arith) refl (run-skip mode (x .number) (alarmIn answers) true)
+
+-- after a long reset, from standard speed
+pub reset-way : (answers : Question → ℕ) (x : Exchange) (way : Way) →
+    run answers (afterReset x) (waySlots way (x .number)) ≡ quietly (chosen (x .number) (wayMode way false) (x .held)) (wayLine way (x .number))
+reset-way answers x way = rw (speed-of (markIn (x .select .mode)) false) at (run-way answers x (standard (x .select .mode)) way)

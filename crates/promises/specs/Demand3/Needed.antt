@@ -8,6 +8,7 @@ use mathlib.Core.Logic.{_≢_}
 use Prim.Native.Nat.{ℕ}
 use lib.ListN.{getD}
 use Rattle.image.specs.Registers.{mip, readPassword, fullPassword}
+use Rattle.select.specs.Select.{speedIn}
 use Rattle.bus.specs.declared.Control.{Control}
 use Rattle.bus.specs.declared.Guarded.{Guarded}
 use Rattle.bus.specs.declared.Stage.{Stage}
@@ -46,7 +47,7 @@ OffersCopy field u bit =
 
 -- the tag is at overdrive
 abbrev pub Overdriven : State → Bool → Type 0
-Overdriven u bit = u .tag .exchange .select .mode .speed ≡ true
+Overdriven u bit = speedIn (u .tag .exchange .select .mode) ≡ true
 
 -- Copy, Read Memory, Clear, Start and Stop, each with this whole field, and a Forced Conversion, which asks for none and is done; some of
 -- it at overdrive

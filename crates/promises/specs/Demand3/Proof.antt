@@ -8,7 +8,7 @@ use Rattle.exchange.specs.declared.Slotted.{Slotted}
 use Rattle.exchange.specs.Exchange as exchange
 use Rattle.exchange.specs.Exchange.Laws as exchange-laws
 use Rattle.memory.specs.Phases.{opened, lets}
-use Rattle.select.specs.Select.{resetSelect, restarted}
+use Rattle.select.specs.Select.{speedIn, resetSelect, restarted}
 use Rattle.event.specs.Event.{answerTo, slotted, resetTag, shortTag, tickTag}
 use Rattle.record.specs.Record.{Outcome}
 use Rattle.promises.specs.Alarms.{alarmFlag, alarmed-flag}
@@ -94,7 +94,7 @@ twins-after s e t f w (wrong-s, wrong-t, Alike.shorts, alarms) =
     let p = short-happens (w .guards-s .sound) in
     let q = short-happens (w .guards-t .sound) in
     let x = s .tag .exchange in (
-      ap lineOf p ∙ ap (λ (y : Exchange). not (y .select .mode .speed)) (w .same) ∙ sym (ap lineOf q),
+      ap lineOf p ∙ ap (λ (y : Exchange). not (speedIn (y .select .mode))) (w .same) ∙ sym (ap lineOf q),
       record {
         guards-s = guards-after s Event.short (w .guards-s) tt;
         guards-t = guards-after t Event.short (w .guards-t) tt;

@@ -7,7 +7,8 @@ use Rattle.exchange.specs.Exchange as exchange
 use Rattle.exchange.specs.Exchange.Laws as exchange-laws
 use Rattle.image.specs.Answers.Laws.{keys-same}
 use Rattle.image.specs.Registers.{passwordControl}
-use Rattle.select.specs.Select.{resetSelect}
+use Rattle.select.specs.Select.{markIn, resetSelect}
+use Rattle.select.specs.Select.Laws.{mark-of}
 use Rattle.memory.specs.Phases.{opened}
 use Rattle.memory.specs.Phases.Laws.{shut-writing}
 use Rattle.event.specs.Event.{resetTag}
@@ -19,7 +20,7 @@ use Rattle.promises.specs.Runs.Laws.{Sound, sound-after, reached-sound, 
 -- such an exchange is what a reset leaves of it
 pub reset-again : {s : State} → JustReset s → s .tag .exchange ≡ exchange.afterReset (s .tag .exchange)
 unfolding after resetTag
-reset-again r = rw (r .reset, reset-happens (reached-sound (r .reached)))
+reset-again r = rw (r .reset, reset-happens (reached-sound (r .reached)), mark-of)
 
 pub reset-reached : {s : State} → JustReset s → Reached s
 reset-reached r = rw (r .reset) (Reached.event Event.reset (r .reached) (sound-accepts (reached-sound (r .reached)) Event.reset tt))
@@ -44,6 +45,6 @@ begins-alike reset-s reset-t on-s on-t same alike =
       checked-t = on-t;
       number = ap (λ (x : Exchange). x .number) same;
       held = ap (λ (x : Exchange). x .held) same;
-      mark = ap (λ (x : Exchange). x .select .mode .mark) same;
+      mark = ap (λ (x : Exchange). markIn (x .select .mode)) same;
       alike = alike;
     }

@@ -17,7 +17,8 @@ use Rattle.exchange.specs.Runs.Laws.{alarmIn, run-choosing}
 use Rattle.select.specs.declared.Choosing.the-variants.{Silent, Command}
 use Rattle.select.specs.declared.Mode.{Mode}
 use Rattle.select.specs.declared.Select.{Select}
-use Rattle.select.specs.Select.{modeOf, keeps, listening, romCommand}
+use Rattle.select.specs.Select.{markIn, speedIn, modeOf, keeps, unmarked, listening, romCommand}
+use Rattle.select.specs.Select.Laws.{mark-of, speed-of}
 use Rattle.select.specs.Select.Mark.{joins, rom-unknown}
 use Rattle.select.specs.Runs as select
 use Rattle.select.specs.Runs.{searchWith, searchAnswers}
@@ -35,7 +36,7 @@ abbrev pub rom : ℕ → List Bool → List Event
 rom byte bits = Event.reset ∷ map Event.slot (bitsOf 8 byte ++ bits)
 
 abbrev pub markOf : State → Bool
-markOf s = s .tag .exchange .select .mode .mark
+markOf s = markIn (s .tag .exchange .select .mode)
 
 -- with this Resume mark, at standard speed
 abbrev pub slowly : Bool → Mode
@@ -91,16 +92,21 @@ module _ (s : State) (sound : Sound s) where
       run-reset s bits sound
       (slots-quiet (afterReset s) bits (run-choosing (answersOf s) (exchange-reset (s .tag .exchange)) bits still ∙ rw e))
 
-  passes-run : (bits : List Bool) {mark : Bool} {line : List Bool} → Dropped before (numberOf s) alarm bits (slowly mark) line →
-      Passes s (false ∷ line) mark (run s (Event.reset ∷ map Event.slot bits))
-  passes-run bits dropped =
+  -- the speed is standard, and the mark is cleared
+  slow-again : unmarked (speedIn before) ≡ slowly false
+  slow-again = ap (modeOf false) (speed-of (markOf s) false)
+
+  passes-run : (bits : List Bool) (mark : Bool) {left : Mode} {line : List Bool} → left ≡ slowly mark →
+      Dropped before (numberOf s) alarm bits left line → Passes s (false ∷ line) mark (run s (Event.reset ∷ map Event.slot bits))
+  passes-run bits mark slow dropped =
       rw (chosen-run bits (dropped .0) (dropped .1))
-      (refl, record { image = refl; code = refl; counters = refl; number = refl; held = refl }, refl)
+      (refl, record { image = refl; code = refl; counters = refl; number = refl; held = refl }, ap (λ (m : Mode). keeps m Silent) slow)
 
   -- by its byte alone
-  passes-byte : (byte : ℕ) (bits : List Bool) {mark : Bool} → byte < 256 → romCommand byte before alarm ≡ keeps (slowly mark) Silent →
+  passes-byte : (byte : ℕ) (bits : List Bool) (mark : Bool) → byte < 256 → romCommand byte before alarm ≡ keeps (slowly mark) Silent →
       Passes s (false ∷ (bitsOf 8 byte ++ bits)) mark (run s (rom byte bits))
-  passes-byte byte bits fits e = passes-run (bitsOf 8 byte ++ bits) (byte-dropped before (numberOf s) byte alarm bits fits e)
+  passes-byte byte bits mark fits e =
+      passes-run (bitsOf 8 byte ++ bits) mark refl (byte-dropped before (numberOf s) byte alarm bits fits e)
 
   -- ---- Match and Search
 
@@ -108,7 +114,7 @@ module _ (s : State) (sound : Sound s) where
   pub passes-match : (fast : Bool) (bits more : List Bool) → length bits ≡ 64 → bits ≢ bitsOf 64 (numberOf s) →
       let byte = matchByte fast in Passes s (false ∷ (bitsOf 8 byte ++ (bits ++ more))) false (run s (rom byte (bits ++ more)))
   passes-match fast bits more whole other =
-      passes-run (bitsOf 8 (matchByte fast) ++ (bits ++ more)) (match-dropped before (numberOf s) alarm fast bits more whole other)
+      passes-run (bitsOf 8 (matchByte fast) ++ (bits ++ more)) false slow-again (match-dropped before (numberOf s) alarm fast bits more whole other)
 
   -- "drops out if it differs": the choices are the number's first k bits, and then not bit k; from there on the line is the master's
   pub passes-search : (k : ℕ) (more : List Bool) → k ≤ 63 →
@@ -117,7 +123,7 @@ module _ (s : State) (sound : Sound s) where
       Passes s (false ∷ (bitsOf 8 0xF0 ++ (searchAnswers right ++ (own ∷ not own ∷ not own ∷ more)))) false
       (run s (rom 0xF0 (searchWith right ++ (true ∷ true ∷ not own ∷ more))))
   passes-search k more low =
-      passes-run (bitsOf 8 0xF0 ++ (searchWith (bitsOf k (numberOf s)) ++ (true ∷ true ∷ not (bitOf (numberOf s) k) ∷ more)))
+      passes-run (bitsOf 8 0xF0 ++ (searchWith (bitsOf k (numberOf s)) ++ (true ∷ true ∷ not (bitOf (numberOf s) k) ∷ more))) false slow-again
       (search-dropped before (numberOf s) alarm k more low)
 
   -- ---- Conditional Search
@@ -137,7 +143,7 @@ module _ (s : State) (sound : Sound s) where
       chosen-run (bitsOf 8 0xEC ++ slots)
       (choosing-through before (x .number) 0xEC alarm slots (omega arith)
       (rw asked (omega (arith, length-search (bitsOf 64 (x .number)), length-bits 64 (x .number)))))
-      (run-search before (x .number) 0xEC alarm (omega arith) asked)
+      (rw (speed-of (markOf s) false) at (run-search before (x .number) 0xEC alarm (omega arith) asked))
 
   -- without any of them the line is the master's, whatever follows
   pub passes-conditional : (bits : List Bool) → alarmFlag (s .image) ≡ false →
@@ -145,7 +151,7 @@ module _ (s : State) (sound : Sound s) where
   unfolding answerTo romCommand
   passes-conditional bits none =
       let asked : alarm ≡ false = rw (alarmed-flag (s .image), none) in
-      passes-byte 0xEC bits (omega arith) (rw asked)
+      passes-byte 0xEC bits false (omega arith) (rw (asked, slow-again))
 
   -- ---- Resume, and any other byte
 
@@ -156,17 +162,17 @@ module _ (s : State) (sound : Sound s) where
   unfolding romCommand Lasts bitsOf
   joins-resume marked =
       let x = s .tag .exchange in
-      chosen-run (bitsOf 8 0xA5) (choosing-through before (x .number) 0xA5 alarm [] (omega arith) (rw marked refl))
-      (run-resume before (x .number) alarm ∙ rw marked)
+      chosen-run (bitsOf 8 0xA5) (choosing-through before (x .number) 0xA5 alarm [] (omega arith) (rw (mark-of (markOf s) false, marked) refl))
+      (run-resume before (x .number) alarm ∙ rw (mark-of (markOf s) false, marked))
 
   -- and without it the tag is silent, whatever follows
   pub passes-resume : (bits : List Bool) → markOf s ≡ false →
       Passes s (false ∷ (bitsOf 8 0xA5 ++ bits)) false (run s (rom 0xA5 bits))
   unfolding romCommand
-  passes-resume bits unmarked = passes-byte 0xA5 bits (omega arith) (rw unmarked)
+  passes-resume bits none = passes-byte 0xA5 bits false (omega arith) (rw (mark-of (markOf s) false, none))
 
   -- "Any other byte: silent until reset"; the mark stays
   pub passes-unknown : (byte : ℕ) (bits : List Bool) → byte < 256 →
       (byte ≢ 0x33) × (byte ≢ 0x55) × (byte ≢ 0x69) × (byte ≢ 0xF0) × (byte ≢ 0xEC) × (byte ≢ 0xCC) × (byte ≢ 0x3C) × (byte ≢ 0xA5) →
       Passes s (false ∷ (bitsOf 8 byte ++ bits)) (markOf s) (run s (rom byte bits))
-  passes-unknown byte bits small others = passes-byte byte bits small (rom-unknown byte before alarm (unknown-byte byte others))
+  passes-unknown byte bits small others = passes-byte byte bits (markOf s) small (rom-unknown byte before alarm (unknown-byte byte others))

@@ -15,7 +15,7 @@ use Rattle.bits.specs.Choose.{choice}
 use Rattle.select.specs.declared.Choosing.the-variants.{Silent, Matching, Giving}
 use Rattle.select.specs.declared.Mode.{Mode}
 use Rattle.select.specs.declared.Select.{Select}
-use Rattle.select.specs.Select.{keeps, unmarked, listening, romCommand, following, heardBit, slotAt, slotOf}
+use Rattle.select.specs.Select.{speedIn, keeps, unmarked, listening, romCommand, following, heardBit, slotAt, slotOf}
 use Rattle.select.specs.Select.Laws.{following-more, heard-right-more}
 use Rattle.select.specs.Select.Mark.{known, among}
 use Rattle.select.specs.Runs.{Ran, run, stillChoosing, searchWith, searchAnswers}
@@ -82,14 +82,14 @@ match-listens number alarm fast mode (bit ∷ b ∷ bs) at h =
     (ap (λ (r : Ran). r .line) (run-silent mode number alarm (b ∷ bs)))))
 
 pub match-dropped : (mode : Mode) (number : ℕ) (alarm fast : Bool) (bits more : List Bool) → length bits ≡ 64 → bits ≢ bitsOf 64 number →
-    let slots = bitsOf 8 (matchByte fast) ++ (bits ++ more) in Dropped mode number alarm slots (unmarked (mode .speed)) slots
+    let slots = bitsOf 8 (matchByte fast) ++ (bits ++ more) in Dropped mode number alarm slots (unmarked (speedIn mode)) slots
 unfolding Lasts
 match-dropped mode number alarm fast bits more whole other =
     let byte = matchByte fast in
     let line : run (listening mode) number alarm (bitsOf 8 byte ++ bits) .line ≡ bitsOf 8 byte ++ bits =
     ap (λ (r : Ran). r .line) (after-command mode number byte alarm bits (match-lt fast))
     ∙ ap (_++_ (bitsOf 8 byte))
-    (rw (rom-match fast mode alarm) (match-listens number alarm fast (unmarked (mode .speed)) bits 0 (omega arith))) in
+    (rw (rom-match fast mode alarm) (match-listens number alarm fast (unmarked (speedIn mode)) bits 0 (omega arith))) in
     let silent = run-match-other mode number alarm fast bits whole other in
     rw (← append-assoc (bitsOf 8 byte) bits more)
     (dropped-then mode number alarm (bitsOf 8 byte ++ bits) more
@@ -125,7 +125,7 @@ differs false = refl
 pub search-dropped : (mode : Mode) (number : ℕ) (alarm : Bool) (k : ℕ) (more : List Bool) → k ≤ 63 →
     let own = bitOf number k in
     let right = bitsOf k number in
-    Dropped mode number alarm (bitsOf 8 0xF0 ++ (searchWith right ++ (true ∷ true ∷ not own ∷ more))) (unmarked (mode .speed))
+    Dropped mode number alarm (bitsOf 8 0xF0 ++ (searchWith right ++ (true ∷ true ∷ not own ∷ more))) (unmarked (speedIn mode))
     (bitsOf 8 0xF0 ++ (searchAnswers right ++ (own ∷ not own ∷ not own ∷ more)))
 unfolding romCommand Lasts searching
 search-dropped mode number alarm k more low =
@@ -134,7 +134,7 @@ search-dropped mode number alarm k more low =
     let slots = searchWith right ++ (true ∷ true ∷ not own ∷ []) in
     let line = searchAnswers right ++ (own ∷ not own ∷ not own ∷ []) in
     let here : 0 + k ≡ k = omega arith in
-    let left = unmarked (mode .speed) in
+    let left = unmarked (speedIn mode) in
     let answered : run (keeps left (Giving 0)) number alarm slots ≡ record { select = keeps left Silent; line = line } =
     rw (div-one, here) at (search-right number alarm left k 0 (true ∷ true ∷ not own ∷ []) (omega arith))
     ∙ ap (follows (searchAnswers right)) (told-wrong searching number alarm left (not own) k [] (differs own)) in

@@ -10,12 +10,11 @@ use Rattle.exchange.specs.Exchange.{afterReset as exchange-reset, slotOf, asks}
 use Rattle.exchange.specs.Runs as exchange
 use Rattle.exchange.specs.Runs.{Way, waySlots, wayLine, wayMode}
 use Rattle.exchange.specs.Runs.Laws.{quiet-then}
-use Rattle.exchange.specs.Runs.Choosing.{run-way}
+use Rattle.exchange.specs.Runs.Choosing.{reset-way}
 use Rattle.bus.specs.declared.Bus.{Bus}
 use Rattle.bus.specs.declared.Deed.{Deed}
 use Rattle.bus.specs.declared.Question.{Question}
 use Rattle.select.specs.declared.Mode.{Mode}
-use Rattle.select.specs.Select.{standard}
 use Rattle.event.specs.Event.{answerTo, performed, performedCounters, slotted, resetTag}
 use Rattle.record.specs.Record.{Outcome}
 use Rattle.promises.specs.Runs.{State, Event, leaves, happens, after, lineBit, Ran, run, Kept}
@@ -169,7 +168,7 @@ module _ (s : State) (sound : Sound s) (way : Way) where
       record { line = greeting s way; state = withExchange s (chosenBy way s) }
   session-way =
       run-reset s (waySlots way (numberOf s)) sound
-      (slots-quiet (afterReset s) (waySlots way (numberOf s)) (run-way (answersOf s) (s .tag .exchange) (standard (s .tag .exchange .select .mode)) way))
+      (slots-quiet (afterReset s) (waySlots way (numberOf s)) (reset-way (answersOf s) (s .tag .exchange) way))
 
   chosen-quiet : (bits : List Bool) {x : Exchange} {line : List Bool} →
       exchange.run (answersOf s) (chosenBy way s) bits ≡ exchange.quietly x line →
@@ -177,7 +176,7 @@ module _ (s : State) (sound : Sound s) (way : Way) where
   chosen-quiet bits e =
       let x = s .tag .exchange in
       slots-quiet (afterReset s) (waySlots way (numberOf s) ++ bits)
-      (quiet-then (answersOf s) (exchange-reset x) (waySlots way (x .number)) bits (run-way (answersOf s) x (standard (x .select .mode)) way) e)
+      (quiet-then (answersOf s) (exchange-reset x) (waySlots way (x .number)) bits (reset-way (answersOf s) x way) e)
 
   -- what does nothing after it
   pub session-quiet : (bits : List Bool) {x : Exchange} {line : List Bool} →

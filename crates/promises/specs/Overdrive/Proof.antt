@@ -22,7 +22,9 @@ use Rattle.record.specs.Record.{Outcome, tagInRange, refusal}
 use Rattle.record.specs.Record.Laws.{ranges-of}
 use Rattle.select.specs.declared.Choosing.{Choosing}
 use Rattle.select.specs.declared.Choosing.the-variants.{Command}
-use Rattle.select.specs.Select.{choosingInRange}
+use Rattle.select.specs.declared.Mode.{Mode}
+use Rattle.select.specs.Select.{markIn, speedIn, modeOf, standard}
+use Rattle.select.specs.Select.Laws.{mark-of, speed-of, mode-of}
 use Rattle.select.specs.Select.Speed.{leads, leads-none, leads-silent, leads-by, skip-leads, match-sets}
 use Rattle.tag.specs.Tag.{newTag, eventOf, step}
 use Rattle.tag.specs.Tag.Laws.{new-good, new-made}
@@ -31,26 +33,55 @@ use Rattle.promises.specs.Overdrive.{speedOf, withSpeed, ButSpeed, NoLon
 use Rattle.promises.specs.Runs.{State, Event, codeOf, readingOf, leaves, happens, after, lineBit, run, Reached}
 use Rattle.promises.specs.Runs.Laws.{Sound, reached-sound, sound-after, slot-happens, reset-happens, short-happens, tick-happens, tick-refused, number-after}
 
+-- ---- a tag at another speed
+
+-- it has that speed, and its own tag at its own speed is itself
+speed-with : (speed : Bool) (s : State) → speedOf (withSpeed speed s) ≡ speed
+speed-with speed s = speed-of (markIn (s .tag .exchange .select .mode)) speed
+
+with-own : (s : State) → withSpeed (speedOf s) s ≡ s
+with-own s i =
+    let x = s .tag .exchange in
+    record {
+      image = s .image;
+      tag = record {
+        code = s .tag .code;
+        counters = s .tag .counters;
+        exchange = record {
+          number = x .number;
+          select = record { choosing = x .select .choosing; mode = mode-of (x .select .mode) i };
+          held = x .held;
+          bus = x .bus;
+        };
+      };
+    }
+
+-- so it differs at most in the speed
+but-with : (s t : State) (speed : Bool) → t ≡ withSpeed speed s → ButSpeed s t
+but-with s t speed e = e ∙ ap (λ (v : Bool). withSpeed v s) (sym (ap speedOf e ∙ speed-with speed s))
+
 -- ---- a short reset
 
 abbrev lineOf : Outcome → Bool
 lineOf o = o .answered .line
 
 -- what it leaves at standard speed, of the exchange, and at overdrive
-slow-exchange : (x : Exchange) → x .select .mode .speed ≡ false → exchange.afterShort x ≡ x
+slow-exchange : (x : Exchange) → speedIn (x .select .mode) ≡ false → exchange.afterShort x ≡ x
 slow-exchange x standard =
     exchange-laws.short-cases (λ y. y ≡ x) x (λ overdrive. absurd (true≢false (sym overdrive ∙ standard))) (λ _. refl)
 
-fast-exchange : (x : Exchange) → x .select .mode .speed ≡ true → exchange.afterShort x ≡ exchange-laws.atSpeed true (exchange.afterReset x)
+fast-exchange : (x : Exchange) → speedIn (x .select .mode) ≡ true → exchange.afterShort x ≡ exchange-laws.atSpeed true (exchange.afterReset x)
 fast-exchange x overdrive =
     exchange-laws.short-cases (λ y. y ≡ exchange-laws.atSpeed true (exchange.afterReset x)) x
-    (λ fast i. record {
-      number = x .number;
-      select = record { choosing = Command 0 0; mode = record { mark = x .select .mode .mark; speed = fast i } };
-      held = x .held;
-      bus = exchange.afterReset x .bus;
-    })
-    (λ standard. absurd (true≢false (sym overdrive ∙ standard)))
+    (λ fast i. record { number = x .number; select = record { choosing = Command 0 0; mode = same fast i }; held = x .held; bus = exchange.afterReset x .bus })
+    (λ slow. absurd (true≢false (sym overdrive ∙ slow)))
+  where
+    mode : Mode
+    mode = x .select .mode
+
+    -- the mode at overdrive is that after a long reset, but for the speed
+    same : speedIn mode ≡ true → mode ≡ modeOf (markIn (standard mode)) true
+    same fast = sym (mode-of mode) ∙ ap (modeOf (markIn mode)) fast ∙ ap (λ (mark : Bool). modeOf mark true) (sym (mark-of (markIn mode) false))
 
 slow : {s : State} → Sound s → speedOf s ≡ false → (lineBit s Event.short ≡ true) × (after s Event.short ≡ s)
 unfolding after shortTag
@@ -103,7 +134,7 @@ speed-run {s} sound (Event.slot bit ∷ events) none =
 speed-run sound (Event.reset ∷ events) none = absurd none
 speed-run {s} sound (Event.tick reading ∷ events) none =
     speed-run (sound-after (Event.tick reading) sound) events none
-    ∙ ap (λ (x : Exchange). leads (x .select .choosing) (x .number) (slotsIn events) || x .select .mode .speed) (tick-exchange sound reading)
+    ∙ ap (λ (x : Exchange). leads (x .select .choosing) (x .number) (slotsIn events) || speedIn (x .select .mode)) (tick-exchange sound reading)
 speed-run {s} sound (Event.short ∷ events) none = by (speedOf s) refl (speed-run (sound-after Event.short sound) events none)
   where
     bits : List Bool
@@ -115,7 +146,7 @@ speed-run {s} sound (Event.short ∷ events) none = by (speedOf s) refl (speed-r
     by : (speed : Bool) → speedOf s ≡ speed → speedOf (run next events .state) ≡ (leads (choosingOf next) (numberOf next) bits || speedOf next) →
         speedOf (run next events .state) ≡ (leads (choosingOf s) (numberOf s) bits || speedOf s)
     by true e onward =
-        let set : speedOf next ≡ true = ap speedOf (fast sound e .1) in
+        let set : speedOf next ≡ true = ap speedOf (fast sound e .1) ∙ speed-with true (after s Event.reset) in
         onward ∙ ap (λ (b : Bool). leads (choosingOf next) (numberOf next) bits || b) set ∙ or-true (leads (choosingOf next) (numberOf next) bits)
         ∙ sym (ap (λ (b : Bool). leads (choosingOf s) (numberOf s) bits || b) e ∙ or-true (leads (choosingOf s) (numberOf s) bits))
     by false e onward = onward ∙ ap (λ (u : State). leads (choosingOf u) (numberOf u) bits || speedOf u) (slow sound e .1)
@@ -125,14 +156,14 @@ reset-speed : {s : State} → Sound s → (events : List Event) → NoLong event
     speedOf (run s (Event.reset ∷ events) .state) ≡ leads (Command 0 0) (numberOf s) (slotsIn events)
 unfolding run after resetTag
 reset-speed {s} sound events none =
-    speed-run (sound-after Event.reset sound) events none ∙ rw (reset-happens sound) (or-false (leads (Command 0 0) (numberOf s) (slotsIn events)))
+    speed-run (sound-after Event.reset sound) events none ∙ rw (reset-happens sound, speed-of) (or-false (leads (Command 0 0) (numberOf s) (slotsIn events)))
 
 new-slow : (image : List ℕ) (number code : ℕ) (accepted : newTag image number code .answered .answer ≡ Answer.Accepted) →
     (events : List Event) → NoLong events → speedOf (run (leaves (newTag image number code)) events .state) ≡ false
 new-slow image number code accepted events none =
     let good = new-good image number code accepted in
     speed-run (reached-sound (Reached.new image number code accepted)) events none
-    ∙ rw (new-made image number code (good .0) (good .1) (good .2), leads-silent)
+    ∙ rw (new-made image number code (good .0) (good .1) (good .2), leads-silent) (speed-of false false)
 
 -- ---- two tags that differ in the speed alone
 
@@ -162,7 +193,7 @@ slot-goes s speed bit =
     let left : performed (b .deed) (b .exchange) c (s .image) ≡ performed (a .deed) (a .exchange) c (s .image) =
     ap (λ (d : Deed). performed d (b .exchange) c (s .image)) (sym (same .1))
     ∙ ap (λ (y : Exchange). performed (a .deed) y c (s .image)) (same .2)
-    ∙ performed-same (a .deed) (b .exchange .select .mode .speed) (a .exchange) c (s .image) in (
+    ∙ performed-same (a .deed) (speedIn (b .exchange .select .mode)) (a .exchange) c (s .image) in (
       same .0,
       λ i. record {
         image = left i;
@@ -170,21 +201,42 @@ slot-goes s speed bit =
       },
     )
 
+-- a refusal, a tick and a long reset
+refused-goes : (s : State) (speed : Bool) (answer : Answer) →
+    Goes (refusal answer (s .tag) (s .image)) (refusal answer (withSpeed speed s .tag) (s .image))
+refused-goes s speed answer = (refl, but-with s (withSpeed speed s) speed refl)
+
+tick-goes : (s : State) (speed : Bool) (reading : ℕ) →
+    Goes (tickTag (s .image) (s .tag) reading) (tickTag (s .image) (withSpeed speed s .tag) reading)
+unfolding tickTag
+tick-goes s speed reading =
+    (refl, but-with (leaves (tickTag (s .image) (s .tag) reading)) (leaves (tickTag (s .image) (withSpeed speed s .tag) reading)) speed refl)
+
+reset-but : (s : State) (speed : Bool) → ButSpeed (leaves (resetTag (s .image) (s .tag))) (leaves (resetTag (s .image) (withSpeed speed s .tag)))
+unfolding resetTag
+reset-but s speed =
+    let x = s .tag .exchange in
+    let next : Exchange → State = λ y. record { image = s .image; tag = record { code = s .tag .code; counters = s .tag .counters; exchange = y } } in
+    let same : exchange.afterReset (exchange-laws.atSpeed speed x) ≡ exchange.afterReset x =
+    exchange-laws.reset-agree (exchange-laws.atSpeed speed x) x refl (mark-of (markIn (x .select .mode)) speed) refl in
+    let long = leaves (resetTag (s .image) (s .tag)) in
+    but-with long (leaves (resetTag (s .image) (withSpeed speed s .tag))) (speedOf long) (ap next same ∙ sym (with-own long))
+
 -- an event that is no short reset
 event-goes : (s : State) (speed : Bool) (e : Event) → NoShort (e ∷ []) →
     Goes (eventOf (s .image) (s .tag) (codeOf e) (readingOf e)) (eventOf (s .image) (withSpeed speed s .tag) (codeOf e) (readingOf e))
-unfolding eventOf resetTag tickTag NoShort
+unfolding eventOf resetTag NoShort
 event-goes s speed (Event.slot true) none = slot-goes s speed true
 event-goes s speed (Event.slot false) none = slot-goes s speed false
-event-goes s speed Event.reset none = (refl, refl)
-event-goes s speed (Event.tick reading) none = choices Goes (ltb 2047 reading) (refl, refl) (refl, refl)
+event-goes s speed Event.reset none = (refl, reset-but s speed)
+event-goes s speed (Event.tick reading) none = choices Goes (ltb 2047 reading) (refused-goes s speed Answer.Reading) (tick-goes s speed reading)
 event-goes s speed Event.short none = absurd none
 
 step-goes : (s : State) (speed : Bool) (e : Event) → NoShort (e ∷ []) → Goes (happens s e) (happens (withSpeed speed s) e)
 unfolding step tagInRange
 step-goes s speed e none =
-    choices Goes (not (eqb (length (s .image)) 8832)) (refl, refl)
-    (choices Goes (not (tagInRange (s .tag))) (refl, refl) (event-goes s speed e none))
+    choices Goes (not (eqb (length (s .image)) 8832)) (refused-goes s speed Answer.ImageLength)
+    (choices Goes (not (tagInRange (s .tag))) (refused-goes s speed Answer.RecordRange) (event-goes s speed e none))
 
 -- and events with none among them, of which the first is none and the others are
 no-short : (e : Event) (events : List Event) → NoShort (e ∷ events) → NoShort (e ∷ []) × NoShort events
@@ -214,8 +266,9 @@ unfolding tagInRange
 speed-sound speed sound = record { size = sound .size; ranges = sound .ranges }
 
 seen : {s : State} → Sound s → lineBit (withSpeed true s) Event.short ≢ lineBit (withSpeed false s) Event.short
-seen sound same =
-    true≢false (sym (slow (speed-sound false sound) refl .0) ∙ sym same ∙ fast (speed-sound true sound) refl .0)
+seen {s} sound same =
+    true≢false
+    (sym (slow (speed-sound false sound) (speed-with false s) .0) ∙ sym same ∙ fast (speed-sound true sound) (speed-with true s) .0)
 
 -- ---- together
 
@@ -241,9 +294,7 @@ unfolding run resetTag
 begun {s} sound overdrive events none =
     let short = fast sound overdrive in
     let long : lineBit s Event.reset ≡ false = ap lineOf (reset-happens sound) in
-    let but : ButSpeed (after s Event.reset) (after s Event.short) =
-    short .1 ∙ ap (λ (v : Bool). withSpeed v (after s Event.reset)) (sym (ap speedOf (short .1))) in
-    let rest = unseen (after s Event.reset) (after s Event.short) but events none in
+    let rest = unseen (after s Event.reset) (after s Event.short) (but-with (after s Event.reset) (after s Event.short) true (short .1)) events none in
     let bits : lineBit s Event.reset ≡ lineBit s Event.short = long ∙ sym (short .0) in
     (λ i. bits i ∷ rest .0 i, rest .1)
 

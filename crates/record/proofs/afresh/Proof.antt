@@ -4,7 +4,7 @@ use Rattle.record.proofs.afresh.Statement.{statement}
 use Rattle.record.proofs.afresh.Tie as tie
 
 returns : tie.Need-returns
-returns c = rw (c .before .before .before .before .before .before .afresh-counters .ensures)
+returns c = rw (c .before .before .before .before .before .afresh-counters .ensures)
 
 pub afresh-spec : {M : Type 1} → statement M
 afresh-spec = tie.close (tie.spec (search needs) returns)

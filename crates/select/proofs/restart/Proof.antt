@@ -4,4 +4,4 @@ use Rattle.select.proofs.restart.Statement.{statement}
 use Rattle.select.proofs.restart.Tie as tie
 
 pub restart-spec : {M : Type 1} → statement M
-restart-spec = tie.close (tie.spec (search needs) (search needs) (λ c. simp (c .keep .ensures, c .before .mode-of .ensures)))
+restart-spec = tie.close (tie.spec (search needs) (λ c. simp (c .keep .ensures)))

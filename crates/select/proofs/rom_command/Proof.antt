@@ -1,9 +1,15 @@
 -- `select::rom_command` meets its contract: an arm of the match is a line of the definition. Assumes nothing.
 use borrow.Author.Needs.{needs}
 use borrow.Author.Tests.{ne-eqb}
-use Rattle.select.specs.Select.{romCommand}
+use mathlib.Core.Bool.{false}
+use mathlib.Core.Path.{_≡_, ap, _∙_}
+use Rattle.select.specs.Select.{speedIn, modeOf, romCommand}
 use Rattle.select.proofs.rom_command.Statement.{statement}
 use Rattle.select.proofs.rom_command.Tie as tie
+
+-- the mode with its mark cleared
+cleared : (c : tie.After-mode-of) → c .mode-of .result ≡ modeOf false (speedIn (c .before .before .args .mode))
+cleared c = c .mode-of .ensures ∙ ap (modeOf false) (c .before .fast .ensures)
 
 returns-11 : tie.Need-returns-11
 unfolding romCommand
@@ -26,15 +32,15 @@ unfolding romCommand
 rom-command-spec =
     tie.close
     (tie.spec (search needs) (search needs) (search needs) (search needs) (search needs) (search needs) (search needs) (search needs)
-    (search needs) (search needs) (search needs) (search needs) (search needs)
-    (λ c. simp (c .keep .ensures, c .before .before .before .mode-of .ensures, c .before .match .keys1))
-    (λ c. simp (c .keep2 .ensures, c .before .before .before .mode-of .ensures, c .before .match .keys2))
-    (λ c. simp (c .keep3 .ensures, c .before .before .before .mode-of .ensures, c .before .match .keys3))
-    (λ c. simp (c .keep4 .ensures, c .before .before .before .mode-of .ensures, c .before .match .keys4))
-    (λ c. simp (c .keep5 .ensures, c .before .before .before .before .mode-of .ensures, c .before .before .match .keys5, c .before .if1 .taken))
-    (λ c. simp (c .keep6 .ensures, c .before .before .before .before .mode-of .ensures, c .before .before .match .keys5, c .before .if1 .left))
-    (λ c. simp (c .keep7 .ensures, c .before .before .before .mode-of .ensures, c .before .match .keys6))
+    (search needs) (search needs) (search needs) (search needs) (search needs) (search needs) (search needs)
+    (λ c. simp (c .keep .ensures, cleared (c .before .before .before), c .before .match .keys1))
+    (λ c. simp (c .keep2 .ensures, cleared (c .before .before .before), c .before .match .keys2))
+    (λ c. simp (c .keep3 .ensures, cleared (c .before .before .before), c .before .match .keys3))
+    (λ c. simp (c .keep4 .ensures, cleared (c .before .before .before), c .before .match .keys4))
+    (λ c. simp (c .keep5 .ensures, cleared (c .before .before .before .before), c .before .before .match .keys5, c .before .if1 .taken))
+    (λ c. simp (c .keep6 .ensures, cleared (c .before .before .before .before), c .before .before .match .keys5, c .before .if1 .left))
+    (λ c. simp (c .keep7 .ensures, cleared (c .before .before .before), c .before .match .keys6))
     (λ c. simp (c .keep8 .ensures, c .before .before .mode-of2 .ensures, c .before .match .keys7))
-    (λ c. simp (c .keep9 .ensures, c .before .before .match .keys8, c .before .if2 .taken))
-    (λ c. simp (c .keep10 .ensures, c .before .before .match .keys8, c .before .if2 .left))
+    (λ c. simp (c .keep9 .ensures, c .before .before .before .match .keys8, ← c .before .before .marked .ensures, c .before .if2 .taken))
+    (λ c. simp (c .keep10 .ensures, c .before .before .before .match .keys8, ← c .before .before .marked .ensures, c .before .if2 .left))
     returns-11)

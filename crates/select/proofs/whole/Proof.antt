@@ -1,6 +1,10 @@
 -- `select::whole` meets its contract, by whether it is an overdrive Match. Assumes nothing.
+use borrow.Author.Needs.{needs}
 use Rattle.select.proofs.whole.Statement.{statement}
 use Rattle.select.proofs.whole.Tie as tie
 
 pub whole-spec : {M : Type 1} → statement M
-whole-spec = tie.close (tie.spec (λ c. rw (c .if1 .taken)) (λ c. rw (c .if1 .left)))
+whole-spec =
+    tie.close
+    (tie.spec (search needs) (search needs) (search needs) (λ c. simp (c .mode-of .ensures, c .before .if1 .taken))
+    (λ c. simp (c .mode-of2 .ensures, c .before .fast .ensures, c .before .before .if1 .left)))

@@ -10,8 +10,8 @@ use Rattle.bits.specs.Choose.{if_then_else_}
 use Rattle.bits.specs.Bits.{bitOf, bitsOf, numberOf, shiftIn, shiftAll, released}
 use Rattle.bits.specs.Bits.Laws.{length-bits, number-bits, heard-whole, bits-from}
 use Rattle.bits.specs.Tests.{beq-eq}
-use Rattle.select.specs.Select.{keeps, unmarked, clears, listening, romCommand, following, whole, heardBit, slotAt, slotOf}
-use Rattle.select.specs.Select.Laws.{command-more, command-last, following-more, read-more, read-last, heard-right-more, heard-right-last, heard-wrong}
+use Rattle.select.specs.Select.{markIn, speedIn, keeps, unmarked, clears, listening, romCommand, following, whole, heardBit, slotAt, slotOf}
+use Rattle.select.specs.Select.Laws.{speed-of, command-more, command-last, following-more, read-more, read-last, heard-right-more, heard-right-last, heard-wrong}
 use Rattle.select.specs.Select.Mark.{known, joins, rom-unknown, rom-joined}
 use Rattle.select.specs.Runs.{Ran, run, searchWith, searchAnswers}
 use Rattle.select.specs.declared.Choosing.{Choosing}
@@ -88,11 +88,11 @@ read-run number alarm mode (suc left) at h =
 -- "Read 33h": the line carries the number, and the tag goes on to memory commands
 pub run-read : (mode : Mode) (number : ℕ) (alarm : Bool) →
     run (listening mode) number alarm (bitsOf 8 0x33 ++ released 64) ≡
-    record { select = clears (mode .speed) Selected; line = bitsOf 8 0x33 ++ bitsOf 64 number }
+    record { select = clears (speedIn mode) Selected; line = bitsOf 8 0x33 ++ bitsOf 64 number }
 unfolding romCommand
 run-read mode number alarm =
     after-command mode number 0x33 alarm (released 64) (omega arith) ∙
-    ap (follows (bitsOf 8 0x33)) (rw div-one at (read-run number alarm (unmarked (mode .speed)) 63 0 refl))
+    ap (follows (bitsOf 8 0x33)) (rw div-one at (read-run number alarm (unmarked (speedIn mode)) 63 0 refl))
 
 -- ---- Match and Search: the tag is told a number bit by bit
 
@@ -221,7 +221,7 @@ pub match-lt : (fast : Bool) → matchByte fast < 256
 match-lt false = omega arith
 match-lt true = omega arith
 
-pub rom-match : (fast : Bool) (mode : Mode) (alarm : Bool) → romCommand (matchByte fast) mode alarm ≡ clears (mode .speed) (Matching fast 0)
+pub rom-match : (fast : Bool) (mode : Mode) (alarm : Bool) → romCommand (matchByte fast) mode alarm ≡ clears (speedIn mode) (Matching fast 0)
 unfolding romCommand
 rom-match false mode alarm = refl
 rom-match true mode alarm = refl
@@ -234,7 +234,7 @@ unfolding matching
 run-match mode number alarm fast =
     after-command mode number (matchByte fast) alarm (bitsOf 64 number) (match-lt fast) ∙
     ap (follows (bitsOf 8 (matchByte fast)))
-    (rw (rom-match fast mode alarm) (rw (div-one, flat-single (bitsOf 64 number)) at (told-whole (matching fast) number alarm (unmarked (mode .speed)) 63 0 refl)))
+    (rw (rom-match fast mode alarm) (rw (div-one, flat-single (bitsOf 64 number), speed-of) at (told-whole (matching fast) number alarm (unmarked (speedIn mode)) 63 0 refl)))
 
 -- numbers of w bits that have the same bits are the same
 bits-same : (w : ℕ) {a b : ℕ} → a < 2 ^ w → b < 2 ^ w → bitsOf w a ≡ bitsOf w b → a ≡ b
@@ -245,17 +245,17 @@ bits-same w {a} {b} ha hb e =
 -- and with any other 64 bits it is silent, at the speed that it had
 pub run-match-other : (mode : Mode) (number : ℕ) (alarm fast : Bool) (bits : List Bool) → length bits ≡ 64 →
     (bits ≡ bitsOf 64 number → ⊥) →
-    run (listening mode) number alarm (bitsOf 8 (matchByte fast) ++ bits) .select ≡ clears (mode .speed) Silent
+    run (listening mode) number alarm (bitsOf 8 (matchByte fast) ++ bits) .select ≡ clears (speedIn mode) Silent
 unfolding matching
 run-match-other mode number alarm fast bits h other =
     ap (λ (r : Ran). r .select) (after-command mode number (matchByte fast) alarm bits (match-lt fast)) ∙
     rw (rom-match fast mode alarm)
-    (rw (flat-single bits) at (told-other (matching fast) number alarm (unmarked (mode .speed)) bits 0 (omega arith) (rw (h, div-one) other)))
+    (rw (flat-single bits) at (told-other (matching fast) number alarm (unmarked (speedIn mode)) bits 0 (omega arith) (rw (h, div-one) other)))
 
 -- so with those of any other number
 pub run-match-number : (mode : Mode) (number other : ℕ) (alarm fast : Bool) → number < 2 ^ 64 → other < 2 ^ 64 →
     (other ≡ number → ⊥) →
-    run (listening mode) number alarm (bitsOf 8 (matchByte fast) ++ bitsOf 64 other) .select ≡ clears (mode .speed) Silent
+    run (listening mode) number alarm (bitsOf 8 (matchByte fast) ++ bitsOf 64 other) .select ≡ clears (speedIn mode) Silent
 run-match-number mode number other alarm fast hn ho differ =
     run-match-other mode number alarm fast (bitsOf 64 other) (length-bits 64 other) (λ e. differ (bits-same 64 ho hn e))
 
@@ -268,25 +268,25 @@ unfolding searching
 run-search mode number byte alarm h joined =
     after-command mode number byte alarm (searchWith (bitsOf 64 number)) h ∙
     rw (rom-joined byte mode alarm joined)
-    (ap (follows (bitsOf 8 byte)) (rw div-one at (told-whole searching number alarm (unmarked (mode .speed)) 63 0 refl)))
+    (ap (follows (bitsOf 8 byte)) (rw (div-one, speed-of) at (told-whole searching number alarm (unmarked (speedIn mode)) 63 0 refl)))
 
 -- a choice that differs silences it
 pub run-search-other : (mode : Mode) (number byte : ℕ) (alarm : Bool) (choices : List Bool) → byte < 256 →
     joins byte alarm ≡ true →
     length choices ≡ 64 → (choices ≡ bitsOf 64 number → ⊥) →
-    run (listening mode) number alarm (bitsOf 8 byte ++ searchWith choices) .select ≡ clears (mode .speed) Silent
+    run (listening mode) number alarm (bitsOf 8 byte ++ searchWith choices) .select ≡ clears (speedIn mode) Silent
 unfolding searching
 run-search-other mode number byte alarm choices h joined whole other =
     ap (λ (r : Ran). r .select) (after-command mode number byte alarm (searchWith choices) h) ∙
     rw (rom-joined byte mode alarm joined)
-    (told-other searching number alarm (unmarked (mode .speed)) choices 0 (omega arith) (rw (whole, div-one) other))
+    (told-other searching number alarm (unmarked (speedIn mode)) choices 0 (omega arith) (rw (whole, div-one) other))
 
 -- without an alarm a Conditional Search is not joined
 pub run-unjoined : (mode : Mode) (number : ℕ) (bits : List Bool) →
-    run (listening mode) number false (bitsOf 8 0xEC ++ bits) ≡ record { select = clears (mode .speed) Silent; line = bitsOf 8 0xEC ++ bits }
+    run (listening mode) number false (bitsOf 8 0xEC ++ bits) ≡ record { select = clears (speedIn mode) Silent; line = bitsOf 8 0xEC ++ bits }
 unfolding romCommand
 run-unjoined mode number bits =
-    after-command mode number 0xEC false bits (omega arith) ∙ ap (follows (bitsOf 8 0xEC)) (run-silent (unmarked (mode .speed)) number false bits)
+    after-command mode number 0xEC false bits (omega arith) ∙ ap (follows (bitsOf 8 0xEC)) (run-silent (unmarked (speedIn mode)) number false bits)
 
 -- ---- Skip, Resume, and any other byte
 
@@ -298,7 +298,7 @@ skipByte true = 0x3C
 -- "Skip CCh", "3Ch"
 pub run-skip : (mode : Mode) (number : ℕ) (alarm fast : Bool) →
     run (listening mode) number alarm (bitsOf 8 (skipByte fast)) ≡
-    record { select = clears (fast || mode .speed) Selected; line = bitsOf 8 (skipByte fast) }
+    record { select = clears (fast || speedIn mode) Selected; line = bitsOf 8 (skipByte fast) }
 unfolding romCommand
 run-skip mode number alarm false = run-command mode number 0xCC alarm (omega arith)
 run-skip mode number alarm true = run-command mode number 0x3C alarm (omega arith)
@@ -306,7 +306,7 @@ run-skip mode number alarm true = run-command mode number 0x3C alarm (omega arit
 -- "Resume needs" the mark
 pub run-resume : (mode : Mode) (number : ℕ) (alarm : Bool) →
     run (listening mode) number alarm (bitsOf 8 0xA5) ≡
-    record { select = keeps mode (if mode .mark then Selected else Silent); line = bitsOf 8 0xA5 }
+    record { select = keeps mode (if markIn mode then Selected else Silent); line = bitsOf 8 0xA5 }
 unfolding romCommand
 run-resume mode number alarm = run-command mode number 0xA5 alarm (omega arith)
 

@@ -6,11 +6,35 @@ use borrow.Author.Tests.{lt-ltb, le-ltb}
 use lib.Dec.{ltb, eqb}
 use Rattle.bits.specs.Bits.{bitOf, shiftIn}
 use Rattle.bits.specs.Choose.{choice}
-use Rattle.select.specs.Select.{keeps, romCommand, whole, commandBit, following, readBit, heardBit, listens, slotAt, slotOf, endsCommand, asksAlarm}
+use Rattle.select.specs.Select.{markIn, speedIn, modeOf, keeps, romCommand, whole, commandBit, following, readBit, heardBit, listens, slotAt, slotOf, endsCommand, asksAlarm}
 use Rattle.select.specs.declared.Choosing.{Choosing}
 use Rattle.select.specs.declared.Choosing.the-variants.{Silent, Command, Reading, Matching, Giving, Complementing, Awaiting, Selected}
 use Rattle.select.specs.declared.Mode.{Mode}
 use Rattle.select.specs.declared.Select.{Select}
+
+-- ---- mark and speed
+
+pub mark-of : (mark speed : Bool) → markIn (modeOf mark speed) ≡ mark
+unfolding markIn modeOf
+mark-of false false = refl
+mark-of true false = refl
+mark-of false true = refl
+mark-of true true = refl
+
+pub speed-of : (mark speed : Bool) → speedIn (modeOf mark speed) ≡ speed
+unfolding speedIn modeOf
+speed-of false false = refl
+speed-of true false = refl
+speed-of false true = refl
+speed-of true true = refl
+
+-- and there is nothing else in a mode
+pub mode-of : (mode : Mode) → modeOf (markIn mode) (speedIn mode) ≡ mode
+unfolding markIn speedIn modeOf
+mode-of Mode.Plain = refl
+mode-of Mode.Marked = refl
+mode-of Mode.Overdrive = refl
+mode-of Mode.OverdriveMarked = refl
 
 -- ---- one slot, where it is not the last of its kind and where it is
 
@@ -37,7 +61,7 @@ command-cases P byte mode alarm reading matching giving selected silent =
     (choice Q (eqb byte 0xEC) (choice P alarm giving silent)
     (choice Q (eqb byte 0xCC) selected
     (choice Q (eqb byte 0x3C) selected
-    (choice Q (eqb byte 0xA5) (choice P (mode .mark) selected silent) silent)))))))
+    (choice Q (eqb byte 0xA5) (choice P (markIn mode) selected silent) silent)))))))
 
 pub following-more : (at : ℕ) → at < 63 → following at ≡ at + 1
 unfolding following

@@ -7,7 +7,8 @@ use borrow.Author.Tests.{eqb-true}
 use lib.Dec.{ltb, eqb}
 use Rattle.bits.specs.Choose.{if_then_else_}
 use Rattle.bits.specs.Bits.{bitOf, shiftIn}
-use Rattle.select.specs.Select.{keeps, clears, romCommand, commandBit, following, readBit, whole, heardBit, slotAt, slotOf, endsCommand}
+use Rattle.select.specs.Select.{markIn, speedIn, keeps, clears, romCommand, commandBit, following, readBit, whole, heardBit, slotAt, slotOf, endsCommand}
+use Rattle.select.specs.Select.Laws.{mark-of}
 use Rattle.select.specs.declared.Choosing.{Choosing}
 use Rattle.select.specs.declared.Choosing.the-variants.{Silent, Command, Reading, Matching, Giving, Complementing, Awaiting, Selected}
 use Rattle.select.specs.declared.Mode.{Mode}
@@ -43,13 +44,13 @@ endsWhole Selected number bit = false
 
 -- ---- what `romCommand` says of them
 
-pub rom-joined : (byte : ℕ) (mode : Mode) (alarm : Bool) → joins byte alarm ≡ true → romCommand byte mode alarm ≡ clears (mode .speed) (Giving 0)
+pub rom-joined : (byte : ℕ) (mode : Mode) (alarm : Bool) → joins byte alarm ≡ true → romCommand byte mode alarm ≡ clears (speedIn mode) (Giving 0)
 unfolding romCommand joins
 rom-joined byte mode alarm = by (eqb byte 0xF0) (eqb byte 0xEC) alarm refl refl
   where
     by : (search conditional alarm : Bool) → eqb byte 0xF0 ≡ search → eqb byte 0xEC ≡ conditional →
         (search || (conditional && alarm)) ≡ true →
-        romCommand byte mode alarm ≡ clears (mode .speed) (Giving 0)
+        romCommand byte mode alarm ≡ clears (speedIn mode) (Giving 0)
     by true conditional alarm e f h = rw (eqb-true byte 0xF0 e)
     by false true true e f h = rw (eqb-true byte 0xEC f)
     by false true false e f h = cc
@@ -78,13 +79,14 @@ rom-cases P byte mode alarm cleared resumed unknown =
     (clears-too P (eqb byte 0x3C) (cleared _ _)
     (rest (eqb byte 0xA5))))))))
   where
-    rest : (resume : Bool) → P (if resume then keeps mode (if mode .mark then Selected else Silent) else keeps mode Silent) false (resume || false)
+    rest : (resume : Bool) → P (if resume then keeps mode (if markIn mode then Selected else Silent) else keeps mode Silent) false (resume || false)
     rest true = resumed _
     rest false = unknown
 
-rom-mark : (byte : ℕ) (mode : Mode) (alarm : Bool) → romCommand byte mode alarm .mode .mark ≡ (if clearing byte then false else mode .mark)
+rom-mark : (byte : ℕ) (mode : Mode) (alarm : Bool) → markIn (romCommand byte mode alarm .mode) ≡ (if clearing byte then false else markIn mode)
 rom-mark byte mode alarm =
-    rom-cases (λ s cleared known. s .mode .mark ≡ (if cleared then false else mode .mark)) byte mode alarm (λ speed k. refl) (λ k. refl) refl
+    rom-cases (λ s cleared known. markIn (s .mode) ≡ (if cleared then false else markIn mode)) byte mode alarm
+    (λ speed k. mark-of false speed) (λ k. refl) refl
 
 pub rom-unknown : (byte : ℕ) (mode : Mode) (alarm : Bool) → known byte ≡ false → romCommand byte mode alarm ≡ keeps mode Silent
 rom-unknown byte mode alarm =
@@ -94,7 +96,7 @@ rom-unknown byte mode alarm =
 
 -- the mark that a slot leaves, by whether it ends a command that clears it
 command-mark : (heard count : ℕ) (mode : Mode) (bit alarm : Bool) →
-    commandBit heard count mode bit alarm .mode .mark ≡ (if endsCommand clearing (Command heard count) bit then false else mode .mark)
+    markIn (commandBit heard count mode bit alarm .mode) ≡ (if endsCommand clearing (Command heard count) bit then false else markIn mode)
 unfolding commandBit endsCommand
 command-mark heard count mode bit alarm = by (ltb count 7)
   where
@@ -102,35 +104,35 @@ command-mark heard count mode bit alarm = by (ltb count 7)
     byte = shiftIn 8 heard bit
 
     by : (more : Bool) →
-        (if more then keeps mode (Command byte (count + 1)) else romCommand byte mode alarm) .mode .mark ≡
-        (if (if more then false else clearing byte) then false else mode .mark)
+        markIn ((if more then keeps mode (Command byte (count + 1)) else romCommand byte mode alarm) .mode) ≡
+        (if (if more then false else clearing byte) then false else markIn mode)
     by true = refl
     by false = rom-mark byte mode alarm
 
 heard-mark : (number at : ℕ) (bit : Bool) (next : Choosing) (fast : Bool) (mode : Mode) →
-    heardBit number at bit next fast mode .mode .mark ≡
-    (if (if ltb at 63 then false else Bool·beq (bitOf number at) bit) then true else mode .mark)
+    markIn (heardBit number at bit next fast mode .mode) ≡
+    (if (if ltb at 63 then false else Bool·beq (bitOf number at) bit) then true else markIn mode)
 unfolding heardBit
 heard-mark number at bit next fast mode = by (ltb at 63) (Bool·beq (bitOf number at) bit)
   where
     by : (more right : Bool) →
-        (if right then (if more then keeps mode next else keeps (whole fast mode) Selected) else keeps mode Silent) .mode .mark ≡
-        (if (if more then false else right) then true else mode .mark)
+        markIn ((if right then (if more then keeps mode next else keeps (whole fast mode) Selected) else keeps mode Silent) .mode) ≡
+        (if (if more then false else right) then true else markIn mode)
     by true true = refl
     by true false = refl
-    by false true = refl
+    by false true = mark-of true (fast || speedIn mode)
     by false false = refl
 
 -- the mark after any slot: cleared, set, or left
 pub mark-after : (select : Select) (number : ℕ) (bit alarm : Bool) →
-    slotOf select number bit alarm .select .mode .mark ≡
-    (if endsCommand clearing (select .choosing) bit then false else if endsWhole (select .choosing) number bit then true else select .mode .mark)
+    markIn (slotOf select number bit alarm .select .mode) ≡
+    (if endsCommand clearing (select .choosing) bit then false else if endsWhole (select .choosing) number bit then true else markIn (select .mode))
 unfolding slotOf slotAt readBit endsCommand endsWhole
 mark-after select number bit alarm = at (select .choosing) (select .mode)
   where
     at : (k : Choosing) (mode : Mode) →
-        slotAt k mode number bit alarm .select .mode .mark ≡
-        (if endsCommand clearing k bit then false else if endsWhole k number bit then true else mode .mark)
+        markIn (slotAt k mode number bit alarm .select .mode) ≡
+        (if endsCommand clearing k bit then false else if endsWhole k number bit then true else markIn mode)
     at Silent mode = refl
     at (Command heard count) mode = command-mark heard count mode bit alarm
     at (Reading n) mode = refl

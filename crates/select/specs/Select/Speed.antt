@@ -16,8 +16,8 @@ use Rattle.bits.specs.Choose.{if_then_else_, either, choice, choices}
 use Rattle.bits.specs.Bits.{bitOf, bitsOf, numberOf, shiftIn, shiftAll}
 use Rattle.bits.specs.Bits.Laws.{length-bits, bits-number, number-lt, heard-whole, no-bits, bits-from}
 use Rattle.bits.specs.Tests.{or-cases, beq-eq}
-use Rattle.select.specs.Select.{modeOf, keeps, clears, romCommand, commandBit, following, readBit, whole, heardBit, slotAt, slotOf, isChosen, choosingInRange}
-use Rattle.select.specs.Select.Laws.{following-more, same-bit}
+use Rattle.select.specs.Select.{markIn, speedIn, modeOf, keeps, clears, romCommand, commandBit, following, readBit, whole, heardBit, slotAt, slotOf, isChosen, choosingInRange}
+use Rattle.select.specs.Select.Laws.{mark-of, speed-of, following-more, same-bit}
 use Rattle.select.specs.declared.Choosing.{Choosing}
 use Rattle.select.specs.declared.Choosing.the-variants.{Silent, Command, Reading, Matching, Giving, Complementing, Awaiting, Selected}
 use Rattle.select.specs.declared.Chosen.{Chosen}
@@ -57,29 +57,29 @@ leads Selected number bits = false
 
 -- the speed is set, or will be by these slots
 abbrev Fast : ℕ → List Bool → Bool → Select → Type 0
-Fast number bits before next = before ≡ (leads (next .choosing) number bits || next .mode .speed)
+Fast number bits before next = before ≡ (leads (next .choosing) number bits || speedIn (next .mode))
 
 rom-leads : (byte : ℕ) (mode : Mode) (alarm : Bool) (number : ℕ) (bits : List Bool) →
-    Fast number bits (sets byte number bits || mode .speed) (romCommand byte mode alarm)
+    Fast number bits (sets byte number bits || speedIn mode) (romCommand byte mode alarm)
 unfolding romCommand leads sets
 rom-leads byte mode alarm number bits =
-    let Q = Fast number bits (sets byte number bits || mode .speed) in
-    let K : Choosing → Type 0 = λ k. Q (clears (mode .speed) k) in
-    either Q (eqb byte 0x33) (λ e. rw (eqb-true byte 0x33 e))
-    (λ e. either Q (eqb byte 0x55) (λ e. rw (eqb-true byte 0x55 e))
-    (λ e. either Q (eqb byte 0x69) (λ e. rw (eqb-true byte 0x69 e, div-one))
-    (λ match. either Q (eqb byte 0xF0) (λ e. rw (eqb-true byte 0xF0 e))
-    (λ e. either Q (eqb byte 0xEC) (λ e. choice K alarm (rw (eqb-true byte 0xEC e)) (rw (eqb-true byte 0xEC e)))
-    (λ e. either Q (eqb byte 0xCC) (λ e. rw (eqb-true byte 0xCC e))
-    (λ e. either Q (eqb byte 0x3C) (λ e. rw (eqb-true byte 0x3C e))
-    (λ skip. either Q (eqb byte 0xA5) (λ e. choice (λ (k : Choosing). Q (keeps mode k)) (mode .mark) (rw (skip, match)) (rw (skip, match)))
+    let Q = Fast number bits (sets byte number bits || speedIn mode) in
+    let K : Choosing → Type 0 = λ k. Q (clears (speedIn mode) k) in
+    either Q (eqb byte 0x33) (λ e. rw (eqb-true byte 0x33 e, speed-of))
+    (λ e. either Q (eqb byte 0x55) (λ e. rw (eqb-true byte 0x55 e, speed-of))
+    (λ e. either Q (eqb byte 0x69) (λ e. rw (eqb-true byte 0x69 e, div-one, speed-of))
+    (λ match. either Q (eqb byte 0xF0) (λ e. rw (eqb-true byte 0xF0 e, speed-of))
+    (λ e. either Q (eqb byte 0xEC) (λ e. choice K alarm (rw (eqb-true byte 0xEC e, speed-of)) (rw (eqb-true byte 0xEC e, speed-of)))
+    (λ e. either Q (eqb byte 0xCC) (λ e. rw (eqb-true byte 0xCC e, speed-of))
+    (λ e. either Q (eqb byte 0x3C) (λ e. rw (eqb-true byte 0x3C e, speed-of))
+    (λ skip. either Q (eqb byte 0xA5) (λ e. choice (λ (k : Choosing). Q (keeps mode k)) (markIn mode) (rw (skip, match)) (rw (skip, match)))
     (λ e. rw (skip, match)))))))))
 
 command-leads : (heard count : ℕ) (mode : Mode) (bit alarm : Bool) (number : ℕ) (bits : List Bool) → count < 8 →
-    Fast number bits (comes (8 - count) heard number (bit ∷ bits) || mode .speed) (commandBit heard count mode bit alarm)
+    Fast number bits (comes (8 - count) heard number (bit ∷ bits) || speedIn mode) (commandBit heard count mode bit alarm)
 unfolding commandBit leads comes
 command-leads heard count mode bit alarm number bits h =
-    let Q = Fast number bits (comes (8 - count) heard number (bit ∷ bits) || mode .speed) in
+    let Q = Fast number bits (comes (8 - count) heard number (bit ∷ bits) || speedIn mode) in
     either Q (ltb count 7)
     (λ e.
     let low = ltb-true count 7 e in
@@ -99,13 +99,13 @@ and-none true speed = refl
 and-none false speed = refl
 
 match-leads : (number at : ℕ) (fast bit : Bool) (mode : Mode) (bits : List Bool) → at < 64 →
-    Fast number bits ((fast && begins (bitsOf (64 - at) (number / 2 ^ at)) (bit ∷ bits)) || mode .speed)
+    Fast number bits ((fast && begins (bitsOf (64 - at) (number / 2 ^ at)) (bit ∷ bits)) || speedIn mode)
     (heardBit number at bit (Matching fast (following at)) fast mode)
 unfolding heardBit leads begins
 match-leads number at fast bit mode bits h =
     let own = bitOf number at in
     let left : 64 - at ≡ suc (63 - at) = omega arith in
-    let Q = Fast number bits ((fast && (Bool·beq own bit && begins (bitsOf (63 - at) (number / 2 ^ (at + 1))) bits)) || mode .speed) in
+    let Q = Fast number bits ((fast && (Bool·beq own bit && begins (bitsOf (63 - at) (number / 2 ^ (at + 1))) bits)) || speedIn mode) in
     rw (left, bits-from (63 - at) number at)
     (either Q (Bool·beq own bit)
     (λ right. either Q (ltb at 63)
@@ -116,26 +116,26 @@ match-leads number at fast bit mode bits h =
     (λ e.
     let high = ltb-false at 63 e in
     let none : 63 - at ≡ 0 = omega (arith, high) in
-    rw (right, none, no-bits) (or-same fast (mode .speed))))
-    (λ wrong. rw wrong (and-none fast (mode .speed))))
+    rw (right, none, no-bits, speed-of) (or-same fast (speedIn mode))))
+    (λ wrong. rw wrong (and-none fast (speedIn mode))))
 
 -- a slot: what was to come has come, or is still to come
 pub slot-leads : (select : Select) (number : ℕ) (bit alarm : Bool) (bits : List Bool) → choosingInRange (select .choosing) ≡ true →
-    Fast number bits (leads (select .choosing) number (bit ∷ bits) || select .mode .speed) (slotOf select number bit alarm .select)
+    Fast number bits (leads (select .choosing) number (bit ∷ bits) || speedIn (select .mode)) (slotOf select number bit alarm .select)
 unfolding slotOf slotAt readBit heardBit leads choosingInRange
 slot-leads select number bit alarm bits h = at (select .choosing) (select .mode) h
   where
     at : (k : Choosing) (mode : Mode) → choosingInRange k ≡ true →
-        Fast number bits (leads k number (bit ∷ bits) || mode .speed) (slotAt k mode number bit alarm .select)
+        Fast number bits (leads k number (bit ∷ bits) || speedIn mode) (slotAt k mode number bit alarm .select)
     at Silent mode h = refl
     at (Command heard count) mode h = command-leads heard count mode bit alarm number bits (ltb-true count 8 h)
-    at (Reading n) mode h = choice (λ (k : Choosing). Fast number bits (mode .speed) (keeps mode k)) (ltb n 63) refl refl
+    at (Reading n) mode h = choice (λ (k : Choosing). Fast number bits (speedIn mode) (keeps mode k)) (ltb n 63) refl refl
     at (Matching fast n) mode h = match-leads number n fast bit mode bits (ltb-true n 64 h)
     at (Giving n) mode h = refl
     at (Complementing n) mode h = refl
     at (Awaiting n) mode h =
-        let Q = Fast number bits (mode .speed) in
-        choice Q (Bool·beq (bitOf number n) bit) (choice Q (ltb n 63) refl refl) refl
+        let Q = Fast number bits (speedIn mode) in
+        choice Q (Bool·beq (bitOf number n) bit) (choice Q (ltb n 63) refl (sym (speed-of true (speedIn mode)))) refl
     at Selected mode h = refl
 
 -- with no slot to come nothing sets it, nor do the slots of a silent tag or of a memory command
@@ -251,35 +251,54 @@ match-sets number rest = byte-leads number 0x69 (bitsOf 64 number ++ rest) (omeg
 
 -- the mode at another speed
 abbrev pub atSpeed : Bool → Mode → Mode
-atSpeed speed mode = modeOf (mode .mark) speed
+atSpeed speed mode = modeOf (markIn mode) speed
 
 -- choosing stands in the same place, with the same mark
 abbrev SameBut : Select → Select → Type 0
-SameBut a b = (a .choosing ≡ b .choosing) × (a .mode .mark ≡ b .mode .mark)
+SameBut a b = (a .choosing ≡ b .choosing) × (markIn (a .mode) ≡ markIn (b .mode))
+
+-- a mode at another speed has the same mark, and so have two that are made with one
+kept-same : (mode : Mode) (speed : Bool) (k : Choosing) → SameBut (keeps mode k) (keeps (atSpeed speed mode) k)
+kept-same mode speed k = (refl, sym (mark-of (markIn mode) speed))
+
+made-same : (mark a b : Bool) (k : Choosing) → SameBut (keeps (modeOf mark a) k) (keeps (modeOf mark b) k)
+made-same mark a b k = (refl, mark-of mark a ∙ sym (mark-of mark b))
 
 rom-same : (byte : ℕ) (mode : Mode) (speed alarm : Bool) → SameBut (romCommand byte mode alarm) (romCommand byte (atSpeed speed mode) alarm)
 unfolding romCommand
 rom-same byte mode speed alarm =
-    choices SameBut (eqb byte 0x33) (refl, refl)
-    (choices SameBut (eqb byte 0x55) (refl, refl)
-    (choices SameBut (eqb byte 0x69) (refl, refl)
-    (choices SameBut (eqb byte 0xF0) (refl, refl)
-    (choices SameBut (eqb byte 0xEC) (refl, refl)
-    (choices SameBut (eqb byte 0xCC) (refl, refl)
-    (choices SameBut (eqb byte 0x3C) (refl, refl)
-    (choices SameBut (eqb byte 0xA5) (refl, refl) (refl, refl))))))))
+    choices SameBut (eqb byte 0x33) (cleared _)
+    (choices SameBut (eqb byte 0x55) (cleared _)
+    (choices SameBut (eqb byte 0x69) (cleared _)
+    (choices SameBut (eqb byte 0xF0) (cleared _)
+    (choices SameBut (eqb byte 0xEC) (cleared _)
+    (choices SameBut (eqb byte 0xCC) (cleared _)
+    (choices SameBut (eqb byte 0x3C) (made-same false true true Selected)
+    (choices SameBut (eqb byte 0xA5) resumed (kept-same mode speed Silent))))))))
+  where
+    same : markIn mode ≡ markIn (atSpeed speed mode)
+    same = sym (mark-of (markIn mode) speed)
+
+    cleared : (k : Choosing) → SameBut (clears (speedIn mode) k) (clears (speedIn (atSpeed speed mode)) k)
+    cleared k = made-same false (speedIn mode) (speedIn (atSpeed speed mode)) k
+
+    resumed : SameBut (keeps mode (if markIn mode then Selected else Silent))
+        (keeps (atSpeed speed mode) (if markIn (atSpeed speed mode) then Selected else Silent))
+    resumed = (ap (λ (mark : Bool). if mark then Selected else Silent) same, same)
 
 command-same : (heard count : ℕ) (mode : Mode) (speed bit alarm : Bool) →
     SameBut (commandBit heard count mode bit alarm) (commandBit heard count (atSpeed speed mode) bit alarm)
 unfolding commandBit
 command-same heard count mode speed bit alarm =
-    choices SameBut (ltb count 7) (refl, refl) (rom-same (shiftIn 8 heard bit) mode speed alarm)
+    choices SameBut (ltb count 7) (kept-same mode speed _) (rom-same (shiftIn 8 heard bit) mode speed alarm)
 
 heard-same : (number at : ℕ) (bit : Bool) (next : Choosing) (fast : Bool) (mode : Mode) (speed : Bool) →
     SameBut (heardBit number at bit next fast mode) (heardBit number at bit next fast (atSpeed speed mode))
 unfolding heardBit
 heard-same number at bit next fast mode speed =
-    choices SameBut (Bool·beq (bitOf number at) bit) (choices SameBut (ltb at 63) (refl, refl) (refl, refl)) (refl, refl)
+    choices SameBut (Bool·beq (bitOf number at) bit)
+    (choices SameBut (ltb at 63) (kept-same mode speed next) (made-same true (fast || speedIn mode) (fast || speedIn (atSpeed speed mode)) Selected))
+    (kept-same mode speed Silent)
 
 -- at another speed a slot gives the same bit, and leaves all but the speed the same
 pub slot-same : (select : Select) (speed : Bool) (number : ℕ) (bit alarm : Bool) →
@@ -293,11 +312,11 @@ slot-same select speed number bit alarm = at (select .choosing) (select .mode)
         let c = slotAt k mode number bit alarm in
         let d = slotAt k (atSpeed speed mode) number bit alarm in
         (c .line ≡ d .line) × SameBut (c .select) (d .select)
-    at Silent mode = (refl, (refl, refl))
+    at Silent mode = (refl, kept-same mode speed _)
     at (Command heard count) mode = (refl, command-same heard count mode speed bit alarm)
-    at (Reading n) mode = (refl, (refl, refl))
+    at (Reading n) mode = (refl, kept-same mode speed _)
     at (Matching fast n) mode = (refl, heard-same number n bit (Matching fast (following n)) fast mode speed)
-    at (Giving n) mode = (refl, (refl, refl))
-    at (Complementing n) mode = (refl, (refl, refl))
+    at (Giving n) mode = (refl, kept-same mode speed _)
+    at (Complementing n) mode = (refl, kept-same mode speed _)
     at (Awaiting n) mode = (refl, heard-same number n bit (Giving (following n)) false mode speed)
-    at Selected mode = (refl, (refl, refl))
+    at Selected mode = (refl, kept-same mode speed _)

@@ -23,7 +23,7 @@ use Rattle.bus.specs.declared.Stage.{Stage}
 use Rattle.bus.specs.Bus.{clearBus, goTo}
 use Rattle.field.specs.Field.{guarded}
 use Rattle.mission.specs.Mission.{cleared, started, startedCounters}
-use Rattle.select.specs.Select.{unmarked, listening}
+use Rattle.select.specs.Select.{markIn, modeOf, unmarked, listening}
 use Rattle.event.specs.Event.{performed, performedCounters, resetTag}
 use Rattle.promises.specs.Demand3.{JustReset}
 use Rattle.promises.specs.Line.ControlRun.{controlSlots, controlBus}
@@ -143,7 +143,7 @@ module _ {number : ℕ} {image : List ℕ} {s : State} (o : Owned number image s
         ap (λ (r : Ran). r .state .tag .counters) starting ∙ ap (λ (i : List ℕ). startedCounters i (s .tag .counters)) (o .holds)
 
   pub is-ready : (bytes : List ℕ) → length bytes ≡ 32 → Bytes bytes → Ready number image bytes (ready s bytes)
-  unfolding after resetTag waySlots wayMode
+  unfolding after resetTag waySlots wayMode markIn modeOf
   is-ready bytes whole small =
       let written = written-owned 0x0000 bytes (omega arith) (omega arith) small in
       let happens = reset-happens (reached-sound (written .reached)) in

@@ -99,7 +99,7 @@ pub stranger-harmless : (number reading : ℕ) (pad : List ℕ) → harmlessAll 
 unfolding harmlessAll asksHarmless harmless denied asks slotOf afterShort memory.asks memory.stageAsks memory.slotOf memory.stageSlot
     memory.onLine fieldAsks gatheredBit judged copies asHeld toTheEnd afterReading afterControlling heardBit heardWhole
     addressHeard commandStage confirmed statusByte select.slotOf select.slotAt select.commandBit select.romCommand select.isChosen
-    select.endsCommand bitsOf bitOf shiftIn flatMap
+    select.endsCommand select.markIn select.speedIn select.modeOf bitsOf bitOf shiftIn flatMap
 stranger-harmless number reading pad = refl
 
 -- and what is so of all his events is so of the first of them
@@ -188,7 +188,7 @@ module _ (number reading : ℕ) (pad : List ℕ) (s : State) (reset : JustReset 
   pub stranger-tried : Tried wrong s (stranger reading)
   unfolding deniedAll denied slotOf afterShort memory.slotOf memory.stageSlot memory.onLine gatheredBit judged copies asHeld toTheEnd
       afterReading afterControlling heardBit heardWhole addressHeard commandStage confirmed statusByte select.slotOf select.slotAt
-      select.commandBit select.romCommand select.isChosen bitsOf bitOf shiftIn flatMap
+      select.commandBit select.romCommand select.isChosen select.markIn select.speedIn select.modeOf bitsOf bitOf shiftIn flatMap
   stranger-tried =
       let converts = stands 504 true refl in
       record {
