@@ -9,6 +9,7 @@ use Prim.Native.Nat.{ℕ}
 use Rattle.answer.specs.declared.Answer.{Answer}
 use Rattle.bits.specs.Bits.{bitsOf}
 use Rattle.record.specs.declared.Tag.{Tag}
+use Rattle.select.specs.declared.Mode.{Mode}
 use Rattle.select.specs.Select.{markIn, speedIn, modeOf}
 use Rattle.tag.specs.Tag.{newTag, step}
 use Rattle.promises.specs.Line.Slots.{numberOf}
@@ -22,23 +23,23 @@ pub mod Proof
 abbrev pub speedOf : State → Bool
 speedOf s = speedIn (s .tag .exchange .select .mode)
 
--- the same tag at this speed
-abbrev pub withSpeed : Bool → State → State
-withSpeed speed s =
+-- the same tag with this Resume mark and speed
+abbrev pub withMode : Mode → State → State
+withMode mode s =
     let x = s .tag .exchange in
     record {
       image = s .image;
       tag = record {
         code = s .tag .code;
         counters = s .tag .counters;
-        exchange = record {
-          number = x .number;
-          select = record { choosing = x .select .choosing; mode = modeOf (markIn (x .select .mode)) speed };
-          held = x .held;
-          bus = x .bus;
-        };
+        exchange =
+            record { number = x .number; select = record { choosing = x .select .choosing; mode = mode }; held = x .held; bus = x .bus };
       };
     }
+
+-- and at this speed
+abbrev pub withSpeed : Bool → State → State
+withSpeed speed s = withMode (modeOf (markIn (s .tag .exchange .select .mode)) speed) s
 
 -- two tags that differ at most in the speed
 abbrev pub ButSpeed : State → State → Type 0

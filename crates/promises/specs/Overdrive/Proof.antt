@@ -29,7 +29,7 @@ use Rattle.select.specs.Select.Speed.{leads, leads-none, leads-silent, leads-by
 use Rattle.tag.specs.Tag.{newTag, eventOf, step}
 use Rattle.tag.specs.Tag.Laws.{new-good, new-made}
 use Rattle.promises.specs.Line.Slots.{numberOf}
-use Rattle.promises.specs.Overdrive.{speedOf, withSpeed, ButSpeed, NoLong, NoShort, slotsIn, SetsSpeed, Overdrive}
+use Rattle.promises.specs.Overdrive.{speedOf, withMode, withSpeed, ButSpeed, NoLong, NoShort, slotsIn, SetsSpeed, Overdrive}
 use Rattle.promises.specs.Runs.{State, Event, codeOf, readingOf, leaves, happens, after, lineBit, run, Reached}
 use Rattle.promises.specs.Runs.Laws.{Sound, reached-sound, sound-after, slot-happens, reset-happens, short-happens, tick-happens, tick-refused, number-after}
 
@@ -40,21 +40,7 @@ speed-with : (speed : Bool) (s : State) → speedOf (withSpeed speed s) ≡ spee
 speed-with speed s = speed-of (markIn (s .tag .exchange .select .mode)) speed
 
 with-own : (s : State) → withSpeed (speedOf s) s ≡ s
-with-own s i =
-    let x = s .tag .exchange in
-    record {
-      image = s .image;
-      tag = record {
-        code = s .tag .code;
-        counters = s .tag .counters;
-        exchange = record {
-          number = x .number;
-          select = record { choosing = x .select .choosing; mode = mode-of (x .select .mode) i };
-          held = x .held;
-          bus = x .bus;
-        };
-      };
-    }
+with-own s = ap (λ (mode : Mode). withMode mode s) (mode-of (s .tag .exchange .select .mode))
 
 -- so it differs at most in the speed
 but-with : (s t : State) (speed : Bool) → t ≡ withSpeed speed s → ButSpeed s t
