@@ -1,5 +1,5 @@
 -- Runs of slots of a tag: what the line carries and what is to be done, over an image that answers as `answers` does. Assumes nothing.
-use mathlib.Core.Bool.{Bool, true, false, _||_}
+use mathlib.Core.Bool.{Bool, true, _||_}
 use mathlib.Core.List.{List, [], _∷_, _++_, map}
 use Prim.Native.Nat.{ℕ}
 use Rattle.bits.specs.Bits.{bitsOf, released}

@@ -226,6 +226,7 @@ fn command_bit(heard: u8, count: u8, mode: Mode, bit: bool, alarm: bool) -> Sele
 fn rom_command(byte: u8, mode: Mode, alarm: bool) -> Select
     ensures { λ r. ⌜ r ≡ romCommand byte mode alarm ⌝ }
 {
+    let mark = marked(mode);
     let cleared = mode_of(false, fast(mode));
     let overdrive = mode_of(false, true);
     match byte {
@@ -251,7 +252,7 @@ fn rom_command(byte: u8, mode: Mode, alarm: bool) -> Select
         0x3C => keep(overdrive, Choosing::Selected),
         // Resume
         0xA5 => {
-            if marked(mode) {
+            if mark {
                 keep(mode, Choosing::Selected)
             } else {
                 keep(mode, Choosing::Silent)

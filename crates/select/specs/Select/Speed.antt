@@ -8,7 +8,7 @@ use Prim.Native.Nat.{ℕ, zero, suc, _+_, _-_, _/_, _^_, _<_, _≤_}
 use native.Mathlib.Decide.{decLt}
 use native.Mathlib.Nat.{div-one}
 use native.Mathlib.Omega.{arith}
-use borrow.Author.Tests.{ltb-true, ltb-false, eqb-true, lt-ltb, le-ltb}
+use borrow.Author.Tests.{ltb-true, ltb-false, eqb-true}
 use lib.Dec.{ltb, eqb, T}
 use lib.ListN.{length, take, drop, take-append-drop}
 use lib.Seq.{length-take-le}
@@ -16,11 +16,10 @@ use Rattle.bits.specs.Choose.{if_then_else_, either, choice, choices}
 use Rattle.bits.specs.Bits.{bitOf, bitsOf, numberOf, shiftIn, shiftAll}
 use Rattle.bits.specs.Bits.Laws.{length-bits, bits-number, number-lt, heard-whole, no-bits, bits-from}
 use Rattle.bits.specs.Tests.{or-cases, beq-eq}
-use Rattle.select.specs.Select.{markIn, speedIn, modeOf, keeps, clears, romCommand, commandBit, following, readBit, whole, heardBit, slotAt, slotOf, isChosen, choosingInRange}
+use Rattle.select.specs.Select.{markIn, speedIn, modeOf, keeps, clears, romCommand, commandBit, following, readBit, heardBit, slotAt, slotOf, isChosen, choosingInRange}
 use Rattle.select.specs.Select.Laws.{mark-of, speed-of, following-more, same-bit}
 use Rattle.select.specs.declared.Choosing.{Choosing}
 use Rattle.select.specs.declared.Choosing.the-variants.{Silent, Command, Reading, Matching, Giving, Complementing, Awaiting, Selected}
-use Rattle.select.specs.declared.Chosen.{Chosen}
 use Rattle.select.specs.declared.Mode.{Mode}
 use Rattle.select.specs.declared.Select.{Select}
 
