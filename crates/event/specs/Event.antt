@@ -80,7 +80,7 @@ shortened tag =
     accepted (record { code = tag .code; counters = tag .counters; exchange = exchange.afterShort (tag .exchange) })
     (not (speedIn (tag .exchange .select .mode)))
 
--- nor has that
+-- nor has a short one
 unfoldable pub shortTag : List ℕ → Tag → Outcome
 shortTag image tag = record { answered = shortened tag; image = image }
 

@@ -1,5 +1,5 @@
-// What each event does to a tag, once its record and image are found right: a slot, a reset, a short one, a tick. One account of it, for whoever
-// asks first: `tag::event` at every event, `batch::events` once a list.
+// What each event does to a tag, once its record and image are found right: a slot, a reset, a short one, a tick. One account of it,
+// for whoever asks first: `tag::event` at every event, `batch::events` once a list.
 use bus::Deed;
 use bus::Question;
 use exchange::Exchange;

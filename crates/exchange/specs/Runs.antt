@@ -13,8 +13,7 @@ use Rattle.bus.specs.Bus.{clearBus}
 use Rattle.select.specs.declared.Choosing.the-variants.{Selected}
 use Rattle.select.specs.declared.Mode.{Mode}
 use Rattle.select.specs.Select.{modeOf, keeps, unmarked}
-use Rattle.select.specs.Runs.{searchWith, searchAnswers}
-use Rattle.select.specs.Runs.Laws.{matchByte, skipByte}
+use Rattle.select.specs.Runs.{matchByte, skipByte, searchWith, searchAnswers}
 use Rattle.exchange.specs.declared.Exchange.{Exchange}
 use Rattle.exchange.specs.Exchange.{asks, slotOf}
 pub mod Laws

@@ -43,7 +43,7 @@ pub fn new(number: u64) -> Exchange
     }
 }
 
-// A reset breaks off whatever is under way; scratchpad, TA, E/S and the Resume mark stay.
+// A long reset breaks off whatever is under way; scratchpad, TA, E/S and the Resume mark stay, and the speed is standard again.
 pub fn reset(x: Exchange) -> Exchange
     ensures { λ r. ⌜ r ≡ afterReset x ⌝ }
 {
@@ -51,7 +51,7 @@ pub fn reset(x: Exchange) -> Exchange
     begin(x, select::reset(before))
 }
 
-// A short reset does so at overdrive, and the speed stays; at standard speed it does nothing.
+// A short reset breaks off at overdrive too, and the speed stays; at standard speed it does nothing.
 pub fn short_reset(x: Exchange) -> Exchange
     ensures { λ r. ⌜ r ≡ afterShort x ⌝ }
 {

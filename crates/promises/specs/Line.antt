@@ -1,8 +1,8 @@
 -- Demand 2 of the order on the line, so that a dead tag is shut out: what a master gets who does it right, over runs of events: a
--- reset, a ROM command that chooses the tag (Read ROM, Match, Search or Skip), and a memory command's slots, from any state that no
+-- reset, a ROM command that chooses the tag (Read ROM, Search, or Match or Skip of either kind), and a memory command's slots, from any state that no
 -- event refuses (`Sound`; every reached state is one, `reached-sound`); what becomes of the registers, from any reached state.
 -- The statements:
---   Choosing: a reset gives 0 and changes nothing; Conditional Search is joined with an alarm flag, Resume with the mark; what is meant for
+--   Choosing: a reset gives 0 and changes nothing; what clears and sets the Resume mark; Conditional Search is joined with an alarm flag, Resume with the mark; what is meant for
 --     another tag, or is no ROM command, leaves the line to the master, and nothing changes.
 --   Reading: Read ROM reads the number; a page that is read is its line of the dump, and nothing changes.
 --   Storing: Write Scratchpad, Read Scratchpad and Copy with a right password store and give back exactly what was written, through

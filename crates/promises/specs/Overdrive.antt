@@ -37,7 +37,7 @@ withMode mode s =
       };
     }
 
--- and at this speed
+-- the same tag at this speed, with its own mark
 abbrev pub withSpeed : Bool → State → State
 withSpeed speed s = withMode (modeOf (markIn (s .tag .exchange .select .mode)) speed) s
 
@@ -47,7 +47,7 @@ ButSpeed s t = t ≡ withSpeed (speedOf t) s
 
 -- ---- events
 
--- none of these is a long reset, and none is a short one
+-- none of these is a long reset; and, below, none is a short one
 unfoldable pub NoLong : List Event → Type 0
 NoLong [] = Unit {0}
 NoLong (Event.slot bit ∷ es) = NoLong es
@@ -70,14 +70,14 @@ slotsIn (Event.reset ∷ es) = slotsIn es
 slotsIn (Event.tick reading ∷ es) = slotsIn es
 slotsIn (Event.short ∷ es) = slotsIn es
 
--- bits that begin with these
-abbrev pub Begins : List Bool → List Bool → Type 0
-Begins first bits = (rest : List Bool) × (bits ≡ first ++ rest)
+-- bits that start with these
+abbrev pub Starts : List Bool → List Bool → Type 0
+Starts first bits = (rest : List Bool) × (bits ≡ first ++ rest)
 
 -- a whole 3Ch, or a whole 69h "only when the whole number matches". At standard speed a short reset is nothing at all: so all slots since a
 -- long reset are those of one ROM command and of what follows it, until the speed is set
 abbrev pub SetsSpeed : ℕ → List Bool → Type 0
-SetsSpeed number bits = Begins (bitsOf 8 0x3C) bits ⊎ Begins (bitsOf 8 0x69 ++ bitsOf 64 number) bits
+SetsSpeed number bits = Starts (bitsOf 8 0x3C) bits ⊎ Starts (bitsOf 8 0x69 ++ bitsOf 64 number) bits
 
 -- ---- what holds
 
@@ -93,14 +93,14 @@ pub record Overdrive : Type 0 where
   pub new : (image : List ℕ) (number code : ℕ) → newTag image number code .answered .answer ≡ Answer.Accepted →
       (events : List Event) → NoLong events → speedOf (run (leaves (newTag image number code)) events .state) ≡ false
   -- since the last long reset: the speed is 1 exactly if the slots since then set it
-  pub set : {s : State} → Sound s → (events : List Event) → NoLong events →
+  pub onlyIf : {s : State} → Sound s → (events : List Event) → NoLong events →
       speedOf (run s (Event.reset ∷ events) .state) ≡ true → SetsSpeed (numberOf s) (slotsIn events)
-  pub only : {s : State} → Sound s → (events : List Event) → NoLong events →
+  pub sets : {s : State} → Sound s → (events : List Event) → NoLong events →
       SetsSpeed (numberOf s) (slotsIn events) → speedOf (run s (Event.reset ∷ events) .state) ≡ true
   -- it changes nothing else: for events with no short reset among them the bits are the same, and the states but for the speed
   pub unseen : (s t : State) → ButSpeed s t → (events : List Event) → NoShort events →
       (run s events .line ≡ run t events .line) × ButSpeed (run s events .state) (run t events .state)
-  -- short resets are where it is seen: among the events there must be none
+  -- a short reset is where it is seen: so that premise is needed
   pub seen : {s : State} → Sound s → lineBit (withSpeed true s) Event.short ≢ lineBit (withSpeed false s) Event.short
   -- so what is said of events begun by a long reset is said, at overdrive, of those begun by a short one
   pub begun : {s : State} → Sound s → speedOf s ≡ true → (events : List Event) → NoShort events →

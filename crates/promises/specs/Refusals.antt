@@ -1,4 +1,5 @@
--- The numbers of document 01 ("Events and what they return"), in its order and by its own conditions: bytes, bits and counts. `Demand1` says
+-- The numbers of document 01 ("Events and what they return"; row 1 as request #103 has it), in its order and by its own conditions: bytes,
+-- bits and counts. `Demand1` says
 -- that the calls answer by these. Assumes nothing.
 use mathlib.Core.Bool.{Bool, true, false, not, _&&_, _||_}
 use mathlib.Core.List.{List, _∷_}
@@ -37,7 +38,8 @@ newNumber image number code =
     else if not (isConfiguration code) then 5
     else 0
 
--- "a refused new tag: the record of all zeros"; one that is accepted: "everything else clear", and silent, since it "waits for a reset"
+-- "a refused new tag: the record of all zeros"; one that is accepted: "everything else clear", and silent, since it "waits for a reset";
+-- `Plain` is no Resume mark at standard speed
 abbrev pub clearTag : ℕ → ℕ → Tag
 clearTag number code =
     record {

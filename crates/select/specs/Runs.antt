@@ -1,5 +1,5 @@
 -- Runs of slots after a reset: what the line carries, and where choosing stands at the end. Assumes nothing.
-use mathlib.Core.Bool.{Bool, true, not, _&&_}
+use mathlib.Core.Bool.{Bool, true, false, not, _&&_}
 use mathlib.Core.List.{List, [], _∷_, flatMap}
 use Prim.Native.Nat.{ℕ}
 use Rattle.select.specs.Select.{slotOf, isSelected}
@@ -25,6 +25,15 @@ unfoldable pub stillChoosing : Select → ℕ → Bool → List Bool → Bool
 stillChoosing select number alarm [] = true
 stillChoosing select number alarm (bit ∷ bits) =
     not (isSelected select) && stillChoosing (slotOf select number bit alarm .select) number alarm bits
+
+-- the command bytes of Match and of Skip, each in two ways; the fast one is the overdrive one of request #103
+abbrev pub matchByte : Bool → ℕ
+matchByte false = 0x55
+matchByte true = 0x69
+
+abbrev pub skipByte : Bool → ℕ
+skipByte false = 0xCC
+skipByte true = 0x3C
 
 -- a Search pass with these choices: per bit two slots released, then the choice
 abbrev pub searchWith : List Bool → List Bool

@@ -1,8 +1,10 @@
 // Choosing a tag on the line: the ROM commands, slot by slot, over a registration number whose bit i is bit i on the line.
 // It knows nothing of what a chosen tag does; once the tag is selected the memory commands are another crate's.
 // Every function answers any input, also a place past the last bit.
+mod modes;
+
 ghost use mathlib.Core.Path.{_≡_};
-ghost use Rattle.select.specs.Select.{markIn, speedIn, modeOf, newSelect, resetSelect, restarted, slotOf, isSelected, asksAlarm, selectInRange, commandBit, romCommand, keeps, whole, readBit, heardBit, following, sends};
+ghost use Rattle.select.specs.Select.{speedIn, newSelect, resetSelect, restarted, slotOf, isSelected, asksAlarm, selectInRange, commandBit, romCommand, keeps, readBit, heardBit, following, sends};
 
 // Where the choosing of a tag stands.
 pub enum Choosing {
@@ -50,15 +52,18 @@ pub struct Chosen {
 pub fn waiting() -> Select
     ensures { λ r. ⌜ r ≡ newSelect ⌝ }
 {
-    keep(mode_of(false, false), Choosing::Silent)
+    keep(modes::made(false, false), Choosing::Silent)
 }
 
-// After a reset a ROM command is heard; only the Resume mark is kept.
+// After a long reset a ROM command is heard; only the Resume mark is kept.
 pub fn reset(select: Select) -> Select
     ensures { λ r. ⌜ r ≡ resetSelect select ⌝ }
 {
     let mode = select.mode;
-    keep(mode_of(marked(mode), false), Choosing::Command(0, 0))
+    keep(
+        modes::made(modes::mark(mode), false),
+        Choosing::Command(0, 0),
+    )
 }
 
 // After a short reset at overdrive too, and the speed is kept beside the mark.
@@ -74,7 +79,7 @@ pub fn overdrive(select: Select) -> bool
     ensures { λ r. ⌜ r ≡ speedIn (select .mode) ⌝ }
 {
     let mode = select.mode;
-    fast(mode)
+    modes::speed(mode)
 }
 
 // Whether `select` keeps to its ranges.
@@ -134,9 +139,9 @@ pub fn slot(select: Select, number: u64, bit: bool, alarm: bool) -> Chosen
             send(true, bit, next)
         }
         Choosing::Reading(at) => send(bits::bit(number, at), bit, read_bit(at, mode)),
-        Choosing::Matching(overdrive, at) => {
-            let next = Choosing::Matching(overdrive, following(at));
-            send(true, bit, hear_bit(number, at, bit, next, overdrive, mode))
+        Choosing::Matching(fast, at) => {
+            let next = Choosing::Matching(fast, following(at));
+            send(true, bit, hear_bit(number, at, bit, next, fast, mode))
         }
         Choosing::Giving(at) => {
             let next = keep(mode, Choosing::Complementing(at));
@@ -164,45 +169,6 @@ fn send(own: bool, bit: bool, select: Select) -> Chosen
     }
 }
 
-// Resume mark and speed as given.
-fn mode_of(mark: bool, speed: bool) -> Mode
-    ensures { λ r. ⌜ r ≡ modeOf mark speed ⌝ }
-{
-    if speed {
-        if mark {
-            Mode::OverdriveMarked
-        } else {
-            Mode::Overdrive
-        }
-    } else {
-        if mark { Mode::Marked } else { Mode::Plain }
-    }
-}
-
-// The Resume mark.
-fn marked(mode: Mode) -> bool
-    ensures { λ r. ⌜ r ≡ markIn mode ⌝ }
-{
-    match mode {
-        Mode::Plain => false,
-        Mode::Marked => true,
-        Mode::Overdrive => false,
-        Mode::OverdriveMarked => true,
-    }
-}
-
-// The speed: whether it is overdrive.
-fn fast(mode: Mode) -> bool
-    ensures { λ r. ⌜ r ≡ speedIn mode ⌝ }
-{
-    match mode {
-        Mode::Plain => false,
-        Mode::Marked => false,
-        Mode::Overdrive => true,
-        Mode::OverdriveMarked => true,
-    }
-}
-
 // How choosing goes on, with Resume mark and speed as given.
 fn keep(mode: Mode, choosing: Choosing) -> Select
     ensures { λ r. ⌜ r ≡ keeps mode choosing ⌝ }
@@ -226,9 +192,9 @@ fn command_bit(heard: u8, count: u8, mode: Mode, bit: bool, alarm: bool) -> Sele
 fn rom_command(byte: u8, mode: Mode, alarm: bool) -> Select
     ensures { λ r. ⌜ r ≡ romCommand byte mode alarm ⌝ }
 {
-    let mark = marked(mode);
-    let cleared = mode_of(false, fast(mode));
-    let overdrive = mode_of(false, true);
+    let mark = modes::mark(mode);
+    let cleared = modes::made(false, modes::speed(mode));
+    let fast = modes::made(false, true);
     match byte {
         // Read
         0x33 => keep(cleared, Choosing::Reading(0)),
@@ -249,7 +215,7 @@ fn rom_command(byte: u8, mode: Mode, alarm: bool) -> Select
         // Skip
         0xCC => keep(cleared, Choosing::Selected),
         // Overdrive Skip
-        0x3C => keep(overdrive, Choosing::Selected),
+        0x3C => keep(fast, Choosing::Selected),
         // Resume
         0xA5 => {
             if mark {
@@ -280,29 +246,18 @@ fn read_bit(at: u8, mode: Mode) -> Select
     }
 }
 
-// Match or Search, once bit `at` is heard: `next` while bits are left. `overdrive` is of an overdrive Match.
-fn hear_bit(number: u64, at: u8, bit: bool, next: Choosing, overdrive: bool, mode: Mode) -> Select
-    ensures { λ r. ⌜ r ≡ heardBit number at bit next overdrive mode ⌝ }
+// Match or Search, once bit `at` is heard: `next` while bits are left. `fast` is an overdrive Match.
+fn hear_bit(number: u64, at: u8, bit: bool, next: Choosing, fast: bool, mode: Mode) -> Select
+    ensures { λ r. ⌜ r ≡ heardBit number at bit next fast mode ⌝ }
 {
     let own = bits::bit(number, at);
     if own == bit {
         if at < 63 {
             keep(mode, next)
         } else {
-            keep(whole(overdrive, mode), Choosing::Selected)
+            keep(modes::whole(fast, mode), Choosing::Selected)
         }
     } else {
         keep(mode, Choosing::Silent)
-    }
-}
-
-// A whole Match or Search sets the mark, an overdrive Match the speed too.
-fn whole(overdrive: bool, mode: Mode) -> Mode
-    ensures { λ r. ⌜ r ≡ whole overdrive mode ⌝ }
-{
-    if overdrive {
-        mode_of(true, true)
-    } else {
-        mode_of(true, fast(mode))
     }
 }

@@ -1,5 +1,5 @@
 -- What demand 3 of the order rests on: two tags whose exchanges are equal go on alike as long as no password field lets them
--- pass, and do nothing but Forced Conversions. Assumes nothing.
+-- pass, and do nothing but Forced Conversions. And what either reset leaves, and what a slot sees of the speed. Assumes nothing.
 use mathlib.Core.Path.{_≡_, refl, sym, ap, _∙_}
 use mathlib.Core.Bool.{Bool, true, false, _||_, and-eq-true-iff}
 use mathlib.Core.List.{List, _∷_}

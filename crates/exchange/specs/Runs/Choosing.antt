@@ -15,7 +15,7 @@ use Rattle.select.specs.Select.{markIn, speedIn, standard, listening, romComman
 use Rattle.select.specs.Select.Laws.{speed-of}
 use Rattle.select.specs.Select.Mark.{joins}
 use Rattle.select.specs.Runs as select-runs
-use Rattle.select.specs.Runs.Laws.{matchByte, match-lt, rom-match, run-read, run-match, run-search, run-skip}
+use Rattle.select.specs.Runs.Laws.{match-lt, rom-match, run-read, run-match, run-search, run-skip}
 use Rattle.select.specs.Runs.Through.{Lasts, choosing-through}
 use Rattle.exchange.specs.declared.Exchange.{Exchange}
 use Rattle.exchange.specs.Exchange.{begun, afterReset}
@@ -44,7 +44,7 @@ unfolding waySlots wayLine wayMode romCommand Lasts joins bitsOf
 run-way answers x mode read =
     chosen-by answers x mode 0x33 (released 64) (omega arith) (omega arith) (run-read mode (x .number) (alarmIn answers))
 run-way answers x mode (match fast) =
-    chosen-by answers x mode (matchByte fast) (bitsOf 64 (x .number)) (match-lt fast)
+    chosen-by answers x mode (select-runs.matchByte fast) (bitsOf 64 (x .number)) (match-lt fast)
     (rw (rom-match fast mode (alarmIn answers)) (omega (arith, length-bits 64 (x .number)))) (run-match mode (x .number) (alarmIn answers) fast)
 run-way answers x mode search =
     chosen-by answers x mode 0xF0 (select-runs.searchWith (bitsOf 64 (x .number))) (omega arith)

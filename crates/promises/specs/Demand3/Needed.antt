@@ -46,19 +46,18 @@ OffersCopy field u bit =
     Offers Guarded.Copying field u bit × (copies (u .tag .exchange .held) (u .tag .exchange .bus) true ≡ true)
 
 -- the tag is at overdrive
-abbrev pub Overdriven : State → Bool → Type 0
-Overdriven u bit = speedIn (u .tag .exchange .select .mode) ≡ true
+abbrev pub Overdriven : State → Type 0
+Overdriven u = speedIn (u .tag .exchange .select .mode) ≡ true
 
--- Copy, Read Memory, Clear, Start and Stop, each with this whole field, and a Forced Conversion, which asks for none and is done; some of
--- it at overdrive
+-- Copy, Read Memory, Clear, Start and Stop, each with this whole field, and a Forced Conversion, which asks for none and is done; Stop at
+-- overdrive
 pub record Tried (field : ℕ) (s : State) (E : List Event) : Type 0 where
   pub copy : Sometime (OffersCopy field) s E
   pub readMemory : Sometime (Offers Guarded.Reading field) s E
   pub clear : Sometime (Offers (Guarded.Controlling Control.Clear) field) s E
   pub start : Sometime (Offers (Guarded.Controlling Control.Start) field) s E
-  pub stop : Sometime (Offers (Guarded.Controlling Control.Stop) field) s E
+  pub stop : Sometime (λ u bit. Offers (Guarded.Controlling Control.Stop) field u bit × Overdriven u) s E
   pub convert : Sometime Converted s E
-  pub overdrive : Sometime Overdriven s E
 
 pub record PremisesMet : Type 0 where
   pub s : State

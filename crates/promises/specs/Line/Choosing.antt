@@ -1,9 +1,10 @@
--- A reset, and the ROM commands that not every tag answers (document 01, "Choosing a tag on the line"): Conditional Search is joined with
--- an alarm flag; a Match with another number, a Search with another choice, any other byte, a Conditional Search without an alarm flag
--- and a Resume without the mark leave the tag silent: the line is the master's, whatever follows, and nothing changes. Resume with the
--- mark chooses. (Read ROM, Match, Search and Skip choose by `session-way` in Slots.) Assumes nothing.
+-- A reset, what ROM commands do to Resume mark and speed, and those that not every tag answers (document 01, "Choosing a tag on the line";
+-- request #103): Conditional Search is joined with an alarm flag; a Match of either kind with another number, a Search with another choice,
+-- any other byte, a Conditional Search without an alarm flag and a Resume without the mark leave the tag silent: the line is the master's,
+-- whatever follows, and nothing changes. Resume with the mark chooses. (Read ROM, Search, and Match and Skip of either kind choose by
+-- `session-way` in Slots.) Assumes nothing.
 use mathlib.Core.Path.{_≡_, refl, sym, ap, _∙_}
-use mathlib.Core.Bool.{Bool, true, false, not}
+use mathlib.Core.Bool.{Bool, true, false, not, or-false}
 use mathlib.Core.List.{List, [], _∷_, _++_, map}
 use mathlib.Core.Logic.{_≢_}
 use Prim.Native.Nat.{ℕ, _<_, _≤_}
@@ -12,22 +13,22 @@ use lib.ListN.{length}
 use Rattle.bits.specs.Bits.{bitOf, bitsOf}
 use Rattle.bits.specs.Bits.Laws.{length-bits}
 use Rattle.exchange.specs.Exchange.{afterReset as exchange-reset}
-use Rattle.exchange.specs.Runs.{chosen}
+use Rattle.exchange.specs.Runs.{chosen, Way, waySlots, wayMode}
 use Rattle.exchange.specs.Runs.Laws.{alarmIn, run-choosing}
-use Rattle.select.specs.declared.Choosing.the-variants.{Silent, Command}
+use Rattle.select.specs.declared.Choosing.the-variants.{Silent, Command, Selected}
 use Rattle.select.specs.declared.Mode.{Mode}
 use Rattle.select.specs.declared.Select.{Select}
 use Rattle.select.specs.Select.{markIn, speedIn, modeOf, keeps, unmarked, listening, romCommand}
 use Rattle.select.specs.Select.Laws.{mark-of, speed-of}
-use Rattle.select.specs.Select.Mark.{joins, rom-unknown}
+use Rattle.select.specs.Select.Mark.{joins, among, clearing, rom-mark, rom-unknown}
 use Rattle.select.specs.Runs as select
-use Rattle.select.specs.Runs.{searchWith, searchAnswers}
-use Rattle.select.specs.Runs.Laws.{run-silent, matchByte, run-search, run-resume}
-use Rattle.select.specs.Runs.Through.{Lasts, choosing-while, choosing-through}
+use Rattle.select.specs.Runs.{matchByte, skipByte, searchWith, searchAnswers}
+use Rattle.select.specs.Runs.Laws.{run-silent, after-command, run-search, run-resume}
+use Rattle.select.specs.Runs.Through.{Lasts, rom-lasts, choosing-while, choosing-through}
 use Rattle.event.specs.Event.{answerTo, resetTag}
 use Rattle.promises.specs.Alarms.{alarmFlag, alarmed-flag}
 use Rattle.promises.specs.Line.Dropped.{Dropped, byte-dropped, unknown-byte, match-dropped, length-search, search-dropped}
-use Rattle.promises.specs.Line.Slots.{numberOf, answersOf, afterReset, withExchange, line-event, slots-quiet, run-slots, run-reset}
+use Rattle.promises.specs.Line.Slots.{numberOf, answersOf, afterReset, withExchange, line-event, slots-quiet, run-slots, run-reset, session-way}
 use Rattle.promises.specs.Runs.{State, Event, after, lineBit, Ran, run, Kept}
 use Rattle.promises.specs.Runs.Laws.{Sound, reset-happens, reset-keeps}
 
@@ -107,6 +108,38 @@ module _ (s : State) (sound : Sound s) where
       Passes s (false ∷ (bitsOf 8 byte ++ bits)) mark (run s (rom byte bits))
   passes-byte byte bits mark fits e =
       passes-run (bitsOf 8 byte ++ bits) mark refl (byte-dropped before (numberOf s) byte alarm bits fits e)
+
+  -- ---- the Resume mark and the speed
+
+  -- a ROM command byte
+  byte-run : (byte : ℕ) → byte < 256 →
+      run s (rom byte []) .state .tag .exchange .select ≡ romCommand byte before alarm
+  unfolding select.run
+  byte-run byte fits =
+      ap (λ (r : Ran). r .state .tag .exchange .select)
+      (chosen-run (bitsOf 8 byte ++ []) (choosing-through before (numberOf s) byte alarm [] fits (rom-lasts byte before alarm))
+      (after-command before (numberOf s) byte alarm [] fits))
+
+  -- "Read, Match, both Searches and Skip clear the Resume mark", and so do 69h and 3Ch, each with its command byte, whatever follows it
+  pub clears-mark : (byte : ℕ) → byte < 256 → among (0x33 ∷ 0x55 ∷ 0x69 ∷ 0xF0 ∷ 0xEC ∷ 0xCC ∷ 0x3C ∷ []) byte ≡ true →
+      markOf (run s (rom byte []) .state) ≡ false
+  unfolding clearing
+  clears-mark byte fits one =
+      ap (λ (next : Select). markIn (next .mode)) (byte-run byte fits) ∙ rom-mark byte before alarm ∙ rw one
+
+  -- Skip chooses without the mark, 3Ch, which is fast, at overdrive
+  pub chooses-skip : (fast : Bool) → run s (rom (skipByte fast) []) .state .tag .exchange .select ≡ keeps (modeOf false fast) Selected
+  unfolding romCommand
+  chooses-skip false = byte-run 0xCC (omega arith) ∙ ap (λ (mode : Mode). keeps mode Selected) slow-again
+  chooses-skip true = byte-run 0x3C (omega arith)
+
+  -- "a whole Match .. sets it", a whole 69h with the speed
+  pub chooses-match : (fast : Bool) →
+      run s (rom (matchByte fast) (bitsOf 64 (numberOf s))) .state .tag .exchange .select ≡ keeps (modeOf true fast) Selected
+  unfolding waySlots wayMode
+  chooses-match fast =
+      ap (λ (r : Ran). r .state .tag .exchange .select) (session-way s sound (Way.match fast))
+      ∙ ap (λ (speed : Bool). keeps (modeOf true speed) Selected) (or-false fast)
 
   -- ---- Match and Search
 

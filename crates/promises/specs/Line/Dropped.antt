@@ -18,8 +18,8 @@ use Rattle.select.specs.declared.Select.{Select}
 use Rattle.select.specs.Select.{speedIn, keeps, unmarked, listening, romCommand, following, heardBit, slotAt, slotOf}
 use Rattle.select.specs.Select.Laws.{following-more, heard-right-more}
 use Rattle.select.specs.Select.Mark.{known, among}
-use Rattle.select.specs.Runs.{Ran, run, stillChoosing, searchWith, searchAnswers}
-use Rattle.select.specs.Runs.Laws.{follows, run-append, run-silent, after-command, searching, told-wrong, matchByte, match-lt, rom-match, run-match-other}
+use Rattle.select.specs.Runs.{Ran, run, stillChoosing, matchByte, searchWith, searchAnswers}
+use Rattle.select.specs.Runs.Laws.{follows, run-append, run-silent, after-command, searching, told-wrong, match-lt, rom-match, run-match-other}
 use Rattle.select.specs.Runs.Through.{Lasts, choosing-while, choosing-append, choosing-through}
 
 -- after a reset, with the first mode, these slots leave the tag silent, with the second, and the line carries these bits; none was a memory

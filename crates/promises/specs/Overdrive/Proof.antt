@@ -35,7 +35,7 @@ use Rattle.promises.specs.Runs.Laws.{Sound, reached-sound, sound-after, 
 
 -- ---- a tag at another speed
 
--- it has that speed, and its own tag at its own speed is itself
+-- it has that speed, and a tag at its own speed is itself
 speed-with : (speed : Bool) (s : State) → speedOf (withSpeed speed s) ≡ speed
 speed-with speed s = speed-of (markIn (s .tag .exchange .select .mode)) speed
 
@@ -224,7 +224,7 @@ step-goes s speed e none =
     choices Goes (not (eqb (length (s .image)) 8832)) (refused-goes s speed Answer.ImageLength)
     (choices Goes (not (tagInRange (s .tag))) (refused-goes s speed Answer.RecordRange) (event-goes s speed e none))
 
--- and events with none among them, of which the first is none and the others are
+-- of events with no short reset among them the first is none, and the others have none
 no-short : (e : Event) (events : List Event) → NoShort (e ∷ events) → NoShort (e ∷ []) × NoShort events
 unfolding NoShort
 no-short (Event.slot bit) events none = (tt, none)
@@ -291,8 +291,8 @@ overdrive =
       fast = fast;
       unread = unread;
       new = new-slow;
-      set = sets-speed;
-      only = speed-set;
+      onlyIf = sets-speed;
+      sets = speed-set;
       unseen = unseen;
       seen = seen;
       begun = begun;

@@ -8,8 +8,8 @@ use Rattle.select.proofs.rom_command.Statement.{statement}
 use Rattle.select.proofs.rom_command.Tie as tie
 
 -- the mode with its mark cleared
-cleared : (c : tie.After-mode-of) → c .mode-of .result ≡ modeOf false (speedIn (c .before .before .before .args .mode))
-cleared c = c .mode-of .ensures ∙ ap (modeOf false) (c .before .fast .ensures)
+cleared : (c : tie.After-made) → c .made .result ≡ modeOf false (speedIn (c .before .before .before .args .mode))
+cleared c = c .made .ensures ∙ ap (modeOf false) (c .before .speed .ensures)
 
 returns-11 : tie.Need-returns-11
 unfolding romCommand
@@ -40,9 +40,9 @@ rom-command-spec =
     (λ c. simp (c .keep5 .ensures, cleared (c .before .before .before .before), c .before .before .match .keys5, c .before .if1 .taken))
     (λ c. simp (c .keep6 .ensures, cleared (c .before .before .before .before), c .before .before .match .keys5, c .before .if1 .left))
     (λ c. simp (c .keep7 .ensures, cleared (c .before .before .before), c .before .match .keys6))
-    (λ c. simp (c .keep8 .ensures, c .before .before .mode-of2 .ensures, c .before .match .keys7))
+    (λ c. simp (c .keep8 .ensures, c .before .before .made2 .ensures, c .before .match .keys7))
     (λ c. let mark = c .before .before .before .before .before .before in
-    simp (c .keep9 .ensures, c .before .before .match .keys8, ← mark .marked .ensures, c .before .if2 .taken))
+    simp (c .keep9 .ensures, c .before .before .match .keys8, ← mark .mark .ensures, c .before .if2 .taken))
     (λ c. let mark = c .before .before .before .before .before .before in
-    simp (c .keep10 .ensures, c .before .before .match .keys8, ← mark .marked .ensures, c .before .if2 .left))
+    simp (c .keep10 .ensures, c .before .before .match .keys8, ← mark .mark .ensures, c .before .if2 .left))
     returns-11)

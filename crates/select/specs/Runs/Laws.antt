@@ -13,7 +13,7 @@ use Rattle.bits.specs.Tests.{beq-eq}
 use Rattle.select.specs.Select.{markIn, speedIn, keeps, unmarked, clears, listening, romCommand, following, whole, heardBit, slotAt, slotOf}
 use Rattle.select.specs.Select.Laws.{speed-of, command-more, command-last, following-more, read-more, read-last, heard-right-more, heard-right-last, heard-wrong}
 use Rattle.select.specs.Select.Mark.{known, joins, rom-unknown, rom-joined}
-use Rattle.select.specs.Runs.{Ran, run, searchWith, searchAnswers}
+use Rattle.select.specs.Runs.{Ran, run, matchByte, skipByte, searchWith, searchAnswers}
 use Rattle.select.specs.declared.Choosing.{Choosing}
 use Rattle.select.specs.declared.Choosing.the-variants.{Silent, Command, Reading, Matching, Giving, Selected}
 use Rattle.select.specs.declared.Mode.{Mode}
@@ -211,12 +211,7 @@ unfolding flatMap
 flat-single [] = refl
 flat-single (bit ∷ bits) = ap (_∷_ bit) (flat-single bits)
 
--- the command byte of Match, and of the overdrive one
-abbrev pub matchByte : Bool → ℕ
-matchByte false = 0x55
-matchByte true = 0x69
-
--- it is a byte, and leads to its Match with the mark cleared
+-- a Match's command byte is a byte, and leads to its Match with the mark cleared
 pub match-lt : (fast : Bool) → matchByte fast < 256
 match-lt false = omega arith
 match-lt true = omega arith
@@ -289,11 +284,6 @@ run-unjoined mode number bits =
     after-command mode number 0xEC false bits (omega arith) ∙ ap (follows (bitsOf 8 0xEC)) (run-silent (unmarked (speedIn mode)) number false bits)
 
 -- ---- Skip, Resume, and any other byte
-
--- the command byte of Skip, and of the overdrive one
-abbrev pub skipByte : Bool → ℕ
-skipByte false = 0xCC
-skipByte true = 0x3C
 
 -- "Skip CCh", "3Ch"
 pub run-skip : (mode : Mode) (number : ℕ) (alarm fast : Bool) →

@@ -34,7 +34,7 @@ abbrev SelectLasts : ℕ → Select → Type 0
 SelectLasts n select = Lasts (select .choosing) n
 
 -- what a command byte leads to is in its ranges
-rom-lasts : (byte : ℕ) (mode : Mode) (alarm : Bool) → SelectLasts 0 (romCommand byte mode alarm)
+pub rom-lasts : (byte : ℕ) (mode : Mode) (alarm : Bool) → SelectLasts 0 (romCommand byte mode alarm)
 unfolding Lasts
 rom-lasts byte mode alarm = command-cases (λ k. Lasts k 0) byte mode alarm (omega arith) (λ fast. omega arith) (omega arith) refl tt
 

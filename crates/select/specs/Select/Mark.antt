@@ -83,7 +83,7 @@ rom-cases P byte mode alarm cleared resumed unknown =
     rest true = resumed _
     rest false = unknown
 
-rom-mark : (byte : ℕ) (mode : Mode) (alarm : Bool) → markIn (romCommand byte mode alarm .mode) ≡ (if clearing byte then false else markIn mode)
+pub rom-mark : (byte : ℕ) (mode : Mode) (alarm : Bool) → markIn (romCommand byte mode alarm .mode) ≡ (if clearing byte then false else markIn mode)
 rom-mark byte mode alarm =
     rom-cases (λ s cleared known. markIn (s .mode) ≡ (if cleared then false else markIn mode)) byte mode alarm
     (λ speed k. mark-of false speed) (λ k. refl) refl

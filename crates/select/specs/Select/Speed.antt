@@ -170,7 +170,7 @@ leads-chosen Selected number bits h = refl
 
 -- ---- from a reset on
 
--- the bits begin with others exactly if they are these and more
+-- bits begin with these exactly if they are these and more
 begins-more : (first bits : List Bool) → begins first bits ≡ true → (rest : List Bool) × (bits ≡ first ++ rest)
 unfolding begins
 begins-more [] bits h = (bits, refl)

@@ -196,7 +196,8 @@ module _ (number reading : ℕ) (pad : List ℕ) (s : State) (reset : JustReset 
         readMemory = tries Guarded.Reading 203 refl refl;
         clear = tries (Guarded.Controlling Control.Clear) 292 refl refl;
         start = tries (Guarded.Controlling Control.Start) 382 refl refl;
-        stop = tries (Guarded.Controlling Control.Stop) 471 refl refl;
+        stop =
+            comes (λ u bit. Offers (Guarded.Controlling Control.Stop) wrong u bit × Overdriven u) 471 false refl
+            (offers (Guarded.Controlling Control.Stop) 471 refl refl, rw (stands 471 false refl .1));
         convert = comes Converted 504 true refl (rw (converts .1) (forces-seen (standing 504) true refl), converts .0 .1);
-        overdrive = comes Overdriven 471 false refl (rw (stands 471 false refl .1));
       }

@@ -1,12 +1,12 @@
--- `select::marked` meets its contract, by the variants. Assumes nothing.
+-- `select::modes::mark` meets its contract, by the variants. Assumes nothing.
 use borrow.Author.Needs.{needs}
 use Rattle.select.specs.Select.{markIn}
-use Rattle.select.proofs.marked.Statement.{statement}
-use Rattle.select.proofs.marked.Tie as tie
+use Rattle.select.proofs.modes.mark.Statement.{statement}
+use Rattle.select.proofs.modes.mark.Tie as tie
 
-pub marked-spec : {M : Type 1} → statement M
+pub mark-spec : {M : Type 1} → statement M
 unfolding markIn
-marked-spec =
+mark-spec =
     tie.close
     (tie.spec (search needs) (search needs) (search needs) (search needs)
     (λ c. rw (c .enum-told .given .1))

@@ -1,12 +1,12 @@
--- `select::fast` meets its contract, by the variants. Assumes nothing.
+-- `select::modes::speed` meets its contract, by the variants. Assumes nothing.
 use borrow.Author.Needs.{needs}
 use Rattle.select.specs.Select.{speedIn}
-use Rattle.select.proofs.fast.Statement.{statement}
-use Rattle.select.proofs.fast.Tie as tie
+use Rattle.select.proofs.modes.speed.Statement.{statement}
+use Rattle.select.proofs.modes.speed.Tie as tie
 
-pub fast-spec : {M : Type 1} → statement M
+pub speed-spec : {M : Type 1} → statement M
 unfolding speedIn
-fast-spec =
+speed-spec =
     tie.close
     (tie.spec (search needs) (search needs) (search needs) (search needs)
     (λ c. rw (c .enum-told .given .1))
