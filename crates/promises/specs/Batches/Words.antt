@@ -42,14 +42,17 @@ refused-is (suc (suc (suc (suc (suc word))))) = by (decLe w 4095) (decLe w 6143)
     w : ℕ
     w = suc (suc (suc (suc (suc word))))
 
+    not-three : eqb w 3 ≡ false
+    not-three = ne-eqb w 3 (λ e. absurd (omega (arith, e)))
+
     no-code : batch.isCode w ≡ false
     no-code = rw (lt-leb w 2 (omega arith), ne-eqb w 4 (λ e. absurd (omega (arith, e))))
 
     by : Dec (w ≤ 4095) → Dec (w ≤ 6143) → isRefused w ≡ not (isEvent w)
     by (yes a) b =
-        rw (le-ltb 6143 w (omega arith), ne-eqb w 3 (λ e. absurd (omega (arith, e))), le-leb 5 w (omega arith), le-leb w 4095 a, no-code, lt-leb 4096 w (omega arith))
+        rw (le-ltb 6143 w (omega arith), not-three, le-leb 5 w (omega arith), le-leb w 4095 a, no-code, lt-leb 4096 w (omega arith))
     by (no a) (yes b) =
-        rw (le-ltb 6143 w b, ne-eqb w 3 (λ e. absurd (omega (arith, e))), lt-leb w 4095 (omega arith), le-leb 5 w (omega arith), no-code, le-leb 4096 w (omega arith), le-leb w 6143 b)
+        rw (le-ltb 6143 w b, not-three, lt-leb w 4095 (omega arith), le-leb 5 w (omega arith), no-code, le-leb 4096 w (omega arith), le-leb w 6143 b)
     by (no a) (no b) =
         rw (lt-ltb 6143 w (omega arith), no-code, le-leb 4096 w (omega arith), lt-leb w 6143 (omega arith))
 

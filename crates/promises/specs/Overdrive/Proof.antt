@@ -59,7 +59,12 @@ slow-exchange x standard =
 fast-exchange : (x : Exchange) → speedIn (x .select .mode) ≡ true → exchange.afterShort x ≡ exchange-laws.atSpeed true (exchange.afterReset x)
 fast-exchange x overdrive =
     exchange-laws.short-cases (λ y. y ≡ exchange-laws.atSpeed true (exchange.afterReset x)) x
-    (λ fast i. record { number = x .number; select = record { choosing = Command 0 0; mode = same fast i }; held = x .held; bus = exchange.afterReset x .bus })
+    (λ fast i. record {
+      number = x .number;
+      select = record { choosing = Command 0 0; mode = same fast i };
+      held = x .held;
+      bus = exchange.afterReset x .bus;
+    })
     (λ slow. absurd (true≢false (sym overdrive ∙ slow)))
   where
     mode : Mode
@@ -115,7 +120,8 @@ unfolding run NoLong slotsIn
 speed-run {s} sound [] none = sym (rw (leads-none (choosingOf s) (numberOf s) (exchange-laws.parts (s .tag .exchange) (in-range sound) .0)))
 speed-run {s} sound (Event.slot bit ∷ events) none =
     speed-run (sound-after (Event.slot bit) sound) events none
-    ∙ ap (λ (n : ℕ). leads (choosingOf (after s (Event.slot bit))) n (slotsIn events) || speedOf (after s (Event.slot bit))) (number-after (Event.slot bit) sound)
+    ∙ ap (λ (n : ℕ). leads (choosingOf (after s (Event.slot bit))) n (slotsIn events) || speedOf (after s (Event.slot bit)))
+    (number-after (Event.slot bit) sound)
     ∙ sym (slot-speed sound bit (slotsIn events))
 speed-run sound (Event.reset ∷ events) none = absurd none
 speed-run {s} sound (Event.tick reading ∷ events) none =
@@ -142,7 +148,8 @@ reset-speed : {s : State} → Sound s → (events : List Event) → NoLong event
     speedOf (run s (Event.reset ∷ events) .state) ≡ leads (Command 0 0) (numberOf s) (slotsIn events)
 unfolding run after resetTag
 reset-speed {s} sound events none =
-    speed-run (sound-after Event.reset sound) events none ∙ rw (reset-happens sound, speed-of) (or-false (leads (Command 0 0) (numberOf s) (slotsIn events)))
+    speed-run (sound-after Event.reset sound) events none
+    ∙ rw (reset-happens sound, speed-of) (or-false (leads (Command 0 0) (numberOf s) (slotsIn events)))
 
 new-slow : (image : List ℕ) (number code : ℕ) (accepted : newTag image number code .answered .answer ≡ Answer.Accepted) →
     (events : List Event) → NoLong events → speedOf (run (leaves (newTag image number code)) events .state) ≡ false
@@ -280,7 +287,8 @@ unfolding run resetTag
 begun {s} sound overdrive events none =
     let short = fast sound overdrive in
     let long : lineBit s Event.reset ≡ false = ap lineOf (reset-happens sound) in
-    let rest = unseen (after s Event.reset) (after s Event.short) (but-with (after s Event.reset) (after s Event.short) true (short .1)) events none in
+    let but = but-with (after s Event.reset) (after s Event.short) true (short .1) in
+    let rest = unseen (after s Event.reset) (after s Event.short) but events none in
     let bits : lineBit s Event.reset ≡ lineBit s Event.short = long ∙ sym (short .0) in
     (λ i. bits i ∷ rest .0 i, rest .1)
 

@@ -212,7 +212,8 @@ byte-of : (bits : List Bool) → 8 ≤ length bits → (byte : ℕ) × (byte < 2
 byte-of bits long =
     let eight : length (take 8 bits) ≡ 8 = length-take-le 8 bits long in
     let byte = numberOf (take 8 bits) in
-    (byte, rw eight at (number-lt (take 8 bits)), sym (ap (λ (first : List Bool). first ++ drop 8 bits) (rw eight at (bits-number (take 8 bits))) ∙ take-append-drop 8 bits))
+    let same : bitsOf 8 byte ≡ take 8 bits = rw eight at (bits-number (take 8 bits)) in
+    (byte, rw eight at (number-lt (take 8 bits)), sym (ap (λ (first : List Bool). first ++ drop 8 bits) same ∙ take-append-drop 8 bits))
 
 -- after a reset these slots set the speed exactly if they begin with 3Ch, or with 69h and the number
 pub leads-by : (number : ℕ) (bits : List Bool) → leads (Command 0 0) number bits ≡ true →
