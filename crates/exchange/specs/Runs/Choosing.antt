@@ -2,8 +2,8 @@
 -- tag on the line"), and so do the overdrive Match and Skip of request #103. Assumes nothing.
 use mathlib.Core.Path.{_≡_, refl, _∙_}
 use mathlib.Core.Bool.{Bool, true, false}
-use mathlib.Core.List.{List, [], _∷_, _++_, flatMap}
-use Prim.Native.Nat.{ℕ, _*_, _<_}
+use mathlib.Core.List.{List, [], _++_}
+use Prim.Native.Nat.{ℕ, _<_}
 use native.Mathlib.Omega.{arith}
 use lib.ListN.{length}
 use Rattle.bits.specs.Bits.{bitsOf, released}
@@ -15,7 +15,7 @@ use Rattle.select.specs.Select.{markIn, speedIn, standard, listening, romComman
 use Rattle.select.specs.Select.Laws.{speed-of}
 use Rattle.select.specs.Select.Mark.{joins}
 use Rattle.select.specs.Runs as select-runs
-use Rattle.select.specs.Runs.Laws.{match-lt, rom-match, run-read, run-match, run-search, run-skip}
+use Rattle.select.specs.Runs.Laws.{match-lt, rom-match, length-search, run-read, run-match, run-search, run-skip}
 use Rattle.select.specs.Runs.Through.{Lasts, choosing-through}
 use Rattle.exchange.specs.declared.Exchange.{Exchange}
 use Rattle.exchange.specs.Exchange.{begun, afterReset}
@@ -30,11 +30,6 @@ chosen-by : (answers : Question → ℕ) (x : Exchange) (mode : Mode) (byte : �
     run answers (begun x (listening mode)) (bitsOf 8 byte ++ bits) ≡ quietly (chosen (x .number) next (x .held)) line
 chosen-by answers x mode byte bits fits lasts e =
     run-choosing answers (begun x (listening mode)) (bitsOf 8 byte ++ bits) (choosing-through mode (x .number) byte (alarmIn answers) bits fits lasts) ∙ rw e
-
-length-search : (choices : List Bool) → length (select-runs.searchWith choices) ≡ 3 * length choices
-unfolding flatMap
-length-search [] = refl
-length-search (choice ∷ choices) = omega (arith, length-search choices)
 
 -- each of the ways chooses the tag, and sets or clears the Resume mark and the speed; scratchpad, TA and E/S stay
 pub run-way : (answers : Question → ℕ) (x : Exchange) (mode : Mode) (way : Way) →

@@ -23,11 +23,11 @@ use Rattle.select.specs.Select.Laws.{mark-of, speed-of}
 use Rattle.select.specs.Select.Mark.{joins, among, clearing, rom-mark, rom-unknown}
 use Rattle.select.specs.Runs as select
 use Rattle.select.specs.Runs.{matchByte, skipByte, searchWith, searchAnswers}
-use Rattle.select.specs.Runs.Laws.{run-silent, after-command, run-search, run-resume}
+use Rattle.select.specs.Runs.Laws.{run-silent, after-command, length-search, run-search, run-resume}
 use Rattle.select.specs.Runs.Through.{Lasts, rom-lasts, choosing-while, choosing-through}
 use Rattle.event.specs.Event.{answerTo, resetTag}
 use Rattle.promises.specs.Alarms.{alarmFlag, alarmed-flag}
-use Rattle.promises.specs.Line.Dropped.{Dropped, byte-dropped, unknown-byte, match-dropped, length-search, search-dropped}
+use Rattle.promises.specs.Line.Dropped.{Dropped, byte-dropped, unknown-byte, match-dropped, search-dropped}
 use Rattle.promises.specs.Line.Slots.{numberOf, answersOf, afterReset, withExchange, line-event, slots-quiet, run-slots, run-reset, session-way}
 use Rattle.promises.specs.Runs.{State, Event, after, lineBit, Ran, run, Kept}
 use Rattle.promises.specs.Runs.Laws.{Sound, reset-happens, reset-keeps}

@@ -4,7 +4,7 @@ use mathlib.Core.Path.{_≡_, refl, ap, _∙_}
 use mathlib.Core.Bool.{Bool, true, false, not, Bool·beq}
 use mathlib.Core.List.{List, [], _∷_, _++_, flatMap, append-assoc}
 use mathlib.Core.Logic.{_≢_}
-use Prim.Native.Nat.{ℕ, zero, suc, _+_, _*_, _/_, _^_, _<_, _≤_}
+use Prim.Native.Nat.{ℕ, zero, suc, _+_, _/_, _^_, _<_, _≤_}
 use native.Mathlib.Nat.{div-one}
 use native.Mathlib.Omega.{arith}
 use borrow.Author.Tests.{lt-ltb, ne-eqb}
@@ -19,7 +19,7 @@ use Rattle.select.specs.Select.{speedIn, keeps, unmarked, listening, romCommand
 use Rattle.select.specs.Select.Laws.{following-more, heard-right-more}
 use Rattle.select.specs.Select.Mark.{known, among}
 use Rattle.select.specs.Runs.{Ran, run, stillChoosing, matchByte, searchWith, searchAnswers}
-use Rattle.select.specs.Runs.Laws.{follows, run-append, run-silent, after-command, searching, told-wrong, match-lt, rom-match, run-match-other}
+use Rattle.select.specs.Runs.Laws.{follows, run-append, run-silent, after-command, searching, told-wrong, match-lt, rom-match, length-search, run-match-other}
 use Rattle.select.specs.Runs.Through.{Lasts, choosing-while, choosing-append, choosing-through}
 
 -- after a reset, with the first mode, these slots leave the tag silent, with the second, and the line carries these bits; none was a memory
@@ -96,11 +96,6 @@ match-dropped mode number alarm fast bits more whole other =
     (choosing-through mode number byte alarm bits (match-lt fast) (rw (rom-match fast mode alarm) (omega arith)), λ i. record { select = silent i; line = line i }))
 
 -- ---- Search
-
-pub length-search : (choices : List Bool) → length (searchWith choices) ≡ 3 * length choices
-unfolding flatMap
-length-search [] = refl
-length-search (choice ∷ choices) = omega (arith, length-search choices)
 
 -- the tag answers, and goes on, while the choices are its bits
 search-right : (number : ℕ) (alarm : Bool) (mode : Mode) (k at : ℕ) (rest : List Bool) → at + k ≤ 63 →

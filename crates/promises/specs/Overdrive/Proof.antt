@@ -3,10 +3,8 @@
 use mathlib.Core.Path.{_≡_, refl, sym, ap, subst, _∙_}
 use mathlib.Core.Bool.{Bool, true, false, not, _||_, true≢false, or-true, or-false}
 use mathlib.Core.List.{List, [], _∷_, append-assoc}
-use mathlib.Core.Logic.{_≢_, inl, inr, ⊎-elim, dite}
+use mathlib.Core.Logic.{_≢_, inl, inr, ⊎-elim}
 use Prim.Native.Nat.{ℕ}
-use native.Mathlib.Decide.{decLe}
-use native.Mathlib.Omega.{arith}
 use lib.Dec.{eqb, ltb}
 use lib.ListN.{length}
 use Rattle.answer.specs.declared.Answer.{Answer}
@@ -28,10 +26,11 @@ use Rattle.select.specs.Select.Laws.{mark-of, speed-of, mode-of}
 use Rattle.select.specs.Select.Speed.{leads, leads-none, leads-silent, leads-by, skip-leads, match-sets}
 use Rattle.tag.specs.Tag.{newTag, eventOf, step}
 use Rattle.tag.specs.Tag.Laws.{new-good, new-made}
-use Rattle.promises.specs.Line.Slots.{numberOf}
+use Rattle.promises.specs.Demand3.Left.{tick-cases}
+use Rattle.promises.specs.Line.Slots.{numberOf, line-event}
 use Rattle.promises.specs.Overdrive.{speedOf, withMode, withSpeed, ButSpeed, NoLong, NoShort, slotsIn, SetsSpeed, Overdrive}
 use Rattle.promises.specs.Runs.{State, Event, codeOf, readingOf, leaves, happens, after, lineBit, run, Reached}
-use Rattle.promises.specs.Runs.Laws.{Sound, reached-sound, sound-after, slot-happens, reset-happens, short-happens, tick-happens, tick-refused, number-after}
+use Rattle.promises.specs.Runs.Laws.{Sound, reached-sound, sound-after, slot-happens, reset-happens, short-happens, number-after}
 
 -- ---- a tag at another speed
 
@@ -47,9 +46,6 @@ but-with : (s t : State) (speed : Bool) → t ≡ withSpeed speed s → ButSpeed
 but-with s t speed e = e ∙ ap (λ (v : Bool). withSpeed v s) (sym (ap speedOf e ∙ speed-with speed s))
 
 -- ---- a short reset
-
-abbrev lineOf : Outcome → Bool
-lineOf o = o .answered .line
 
 -- what it leaves at standard speed, of the exchange, and at overdrive
 slow-exchange : (x : Exchange) → speedIn (x .select .mode) ≡ false → exchange.afterShort x ≡ x
@@ -77,7 +73,7 @@ fast-exchange x overdrive =
 slow : {s : State} → Sound s → speedOf s ≡ false → (lineBit s Event.short ≡ true) × (after s Event.short ≡ s)
 unfolding after shortTag
 slow {s} sound standard = (
-  ap lineOf (short-happens sound) ∙ ap not standard,
+  line-event s Event.short (short-happens sound) ∙ ap not standard,
   rw (short-happens sound, slow-exchange (s .tag .exchange) standard),
 )
 
@@ -85,7 +81,7 @@ fast : {s : State} → Sound s → speedOf s ≡ true →
     (lineBit s Event.short ≡ false) × (after s Event.short ≡ withSpeed true (after s Event.reset))
 unfolding after shortTag resetTag
 fast {s} sound overdrive = (
-  ap lineOf (short-happens sound) ∙ ap not overdrive,
+  line-event s Event.short (short-happens sound) ∙ ap not overdrive,
   rw (short-happens sound, reset-happens sound, fast-exchange (s .tag .exchange) overdrive),
 )
 
@@ -103,9 +99,8 @@ in-range {s} sound = ranges-of (s .tag) (sound .ranges) .line
 
 -- a tick leaves the exchange, valid or not
 tick-exchange : {s : State} → Sound s → (reading : ℕ) → after s (Event.tick reading) .tag .exchange ≡ s .tag .exchange
-unfolding after tickTag
-tick-exchange sound reading =
-    dite (decLe reading 2047) (λ small. rw (tick-happens sound reading small)) (λ high. rw (tick-refused sound reading (omega arith)))
+unfolding tickTag
+tick-exchange {s} sound reading = tick-cases sound reading (λ u. u .tag .exchange ≡ s .tag .exchange) refl refl
 
 slot-speed : {s : State} → Sound s → (bit : Bool) (bits : List Bool) →
     let next = after s (Event.slot bit) in
@@ -286,7 +281,7 @@ begun : {s : State} → Sound s → speedOf s ≡ true → (events : List Event)
 unfolding run resetTag
 begun {s} sound overdrive events none =
     let short = fast sound overdrive in
-    let long : lineBit s Event.reset ≡ false = ap lineOf (reset-happens sound) in
+    let long : lineBit s Event.reset ≡ false = line-event s Event.reset (reset-happens sound) in
     let but = but-with (after s Event.reset) (after s Event.short) true (short .1) in
     let rest = unseen (after s Event.reset) (after s Event.short) but events none in
     let bits : lineBit s Event.reset ≡ lineBit s Event.short = long ∙ sym (short .0) in

@@ -2,7 +2,7 @@
 use mathlib.Core.Path.{_≡_, refl, sym, ap, _∙_}
 use mathlib.Core.Bool.{Bool, true, false, not, _||_, Bool·beq, and-true}
 use mathlib.Core.List.{List, [], _∷_, _++_, flatMap}
-use Prim.Native.Nat.{ℕ, zero, suc, _+_, _/_, _%_, _^_, _<_, _≤_}
+use Prim.Native.Nat.{ℕ, zero, suc, _+_, _*_, _/_, _%_, _^_, _<_, _≤_}
 use native.Mathlib.Nat.{div-one, mod-eq-of-lt}
 use native.Mathlib.Omega.{arith}
 use lib.ListN.{length}
@@ -253,6 +253,12 @@ pub run-match-number : (mode : Mode) (number other : ℕ) (alarm fast : Bool) �
     run (listening mode) number alarm (bitsOf 8 (matchByte fast) ++ bitsOf 64 other) .select ≡ clears (speedIn mode) Silent
 run-match-number mode number other alarm fast hn ho differ =
     run-match-other mode number alarm fast (bitsOf 64 other) (length-bits 64 other) (λ e. differ (bits-same 64 ho hn e))
+
+-- a Search pass has three slots a bit
+pub length-search : (choices : List Bool) → length (searchWith choices) ≡ 3 * length choices
+unfolding flatMap
+length-search [] = refl
+length-search (choice ∷ choices) = omega (arith, length-search choices)
 
 -- "Search F0h", and "Conditional Search ECh .. joined only if" there is an alarm: a pass whose choices are the number's bits selects
 -- and marks the tag, which answers bit by bit
