@@ -44,6 +44,19 @@ def load(fault, wanted="programs"):
 UNHEARD = "        if not self.overdrive:\n            return 1\n"
 HEARD = UNHEARD + "        self.reset()\n"
 
+# The steps of the hours by their form.
+STEP_HOURS = "STEP_HOURS = {0: step_table(HOURS_24), FORM: step_table(HOURS_12)}\n"
+
+
+def hour_fault(name, hours, step):
+    """The bytes of the twelve-hour form for which `hours` is true step so: the byte after the step, and the carry."""
+    return Fault(name, "tag", STEP_HOURS, STEP_HOURS + f"""\
+for hour in range(FORM, 128):
+    if {hours}:
+        STEP_HOURS[FORM][hour] = {step}
+""")
+
+
 FAULTS = (
     # Document 01, "Slips that look right"
     Fault("password in the CRC", "tag", "sent = bytearray((READ_MEMORY, ta1, ta2))  #",
@@ -174,7 +187,52 @@ whole = True
     Fault("an invalid year has a leap day", "tag", "year is not None and year % 4 == 0",
           "year is None or year % 4 == 0"),
     Fault("every month has 31 days", "tag", "return 30 if month in (4, 6, 9, 11) else 31", "return 31"),
-    Fault("an invalid field steps", "tag", "lowest <= value < last", "value < last"),
+    Fault("date or month 00 steps", "tag", "(order[0], 1) for", "(order[0], byte > 0) for"),
+
+    # Twelve-hour clocks (request #104): the step
+    hour_fault("12 AM goes to 13 AM", "hour == 0x52", "0x53, 0"),
+    hour_fault("12 PM goes to 13 PM", "hour == 0x72", "0x73, 0"),
+    hour_fault("9 PM goes to 6Ah", "hour == 0x69", "0x6A, 0"),
+    hour_fault("11 AM goes to 12 AM", "hour == 0x51", "0x52, 0"),
+    hour_fault("11 AM carries to the date", "hour == 0x51", "0x72, 1"),
+    hour_fault("12 PM carries to the date", "hour == 0x72", "0x61, 1"),
+    hour_fault("11 PM goes to 12 PM", "hour == 0x71", "0x72, 1"),
+    hour_fault("11 PM does not carry", "hour == 0x71", "0x52, 0"),
+    hour_fault("11 PM loses the form bit", "hour == 0x71", "0x00, 1"),
+    hour_fault("an invalid hour loses the form bit", "hour not in HOURS_12", "0x00, 1"),
+    hour_fault("an invalid hour keeps PM", "hour not in HOURS_12", "0x52 | hour & PM, 1"),
+    hour_fault("an invalid morning hour does not carry", "hour not in HOURS_12 and not hour & PM", "0x52, 0"),
+    hour_fault("an invalid morning hour goes to 12 PM", "hour not in HOURS_12 and not hour & PM", "0x72, 0"),
+    hour_fault("hour 0 steps", "hour in (0x40, 0x60)", "hour + 1, 0"),
+    Fault("12 the last hour of its half", "tag", "(12, *range(1, 12))", "range(1, 13)"),
+    Fault("23 goes to 24", "tag", "HOURS_24 = in_bcd(0, 23)", "HOURS_24 = in_bcd(0, 24)"),
+    Fault("hours of either form step as in the 24-hour form", "tag", "hours, carry = STEP_HOURS[hours & FORM][hours]",
+          "form = hours & FORM\n        hours, carry = STEP_HOURS[0][hours - form]\n        hours |= form"),
+    Fault("an invalid hour returns before it steps", "tag", "hours, carry = STEP_HOURS[hours & FORM][hours]\n",
+          "hours, carry = STEP_HOURS[hours & FORM][hours]\n    elif hours not in HOURS_24 + HOURS_12:\n"
+          "        hours = STEP_HOURS[hours & FORM][hours][0]\n"),
+
+    # Twelve-hour clocks: the register and the stamp
+    Fault("the form bit not written", "tag", "*SETTINGS, (0x0228, 0x0237, 0xFF))",
+          "*SETTINGS, (0x0228, 0x0237, 0xFF), (0x0202, 0x0202, 0x3F))"),
+    Fault("the form bit not read", "tag", "*SETTINGS, (0x020C, 0x020C, 0xE0),",
+          "*SETTINGS, (0x0202, 0x0202, 0x3F), (0x020C, 0x020C, 0xE0),"),
+    Fault("the form bit lost by a tick", "tag", "hours & 0x7F, date", "hours & 0x3F, date"),
+    Fault("bit 7 of the hours written and read", "tag", "(0x0203, 0x0203, 0x3F),",
+          "(0x0202, 0x0202, 0xFF), (0x0203, 0x0203, 0x3F),"),
+    Fault("a new tag in the twelve-hour form", "tag", "image[ALARMS] = BOR",
+          "image[ALARMS], image[CLOCK + 2] = BOR, 0x52"),
+    Fault("Copy mends an invalid hour", "tag", "byte = self.image[address] & ~writable | byte & writable\n", """\
+byte = self.image[address] & ~writable | byte & writable
+                if address == CLOCK + 2 and byte not in HOURS_24 + HOURS_12:
+                    byte = STEP_HOURS[byte & FORM][byte][0]
+"""),
+    Fault("the stamp in the 24-hour form", "tag", "self.store_entry(entry, reading)", """\
+if samples == 0 and self.image[CLOCK + 2] in HOURS_12:
+            self.image[STAMP + 2] = HOURS_24[HOURS_12.index(self.image[CLOCK + 2])]
+        self.store_entry(entry, reading)"""),
+    Fault("the stamp without the form bit", "tag", "self.store_entry(entry, reading)",
+          "self.image[STAMP + 2] &= ~FORM\n        self.store_entry(entry, reading)"),
 
     # A mission
     Fault("delay one tick late", "tag", "if self.minute == 60:", "if self.minute == 61:"),
@@ -252,6 +310,8 @@ whole = True
     if line_bytes[:2] != page.to_bytes(2, "big"):
         raise Refused(9)
 """),
+    Fault("the stamp listed without the form bit", "dock", "bytes(register(STAMP + i) for i in range(6))",
+          "bytes(register(STAMP + i) & (0x3F if i == 2 else 0xFF) for i in range(6))"),
     Fault("a full log with SUTA refused", "dock", "count > places(register)", "count >= places(register)"),
     Fault("an 18,835th byte not noticed", "dock", "if len(text) != DUMP_LENGTH:", "if len(text) < DUMP_LENGTH:"),
     Fault("small digits taken", "dock", 'DIGITS = b"0123456789ABCDEF"', 'DIGITS = b"0123456789ABCDEFabcdef"'),

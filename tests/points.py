@@ -1,4 +1,4 @@
-"""The points of document 01 and of requests #102 and #103, computed by the model.
+"""The points of document 01 and of requests #102 to #104, computed by the model.
 
 The last line is 'N passed, M failed'.
 """
@@ -12,9 +12,9 @@ from model import dock, programs
 from model.crc import crc8, crc16
 from model.master import Master
 from model.tag import (
-    ALARMS, BOR, CLOCK, CODE_L, CODE_T, CONTROL, DELAY, DEVICE_SAMPLES, EHSS, ETHA, ETL, ETLA, IMAGE_LENGTH,
-    LATEST, LOG_IN_IMAGE, MEMCLR, MIP, MISSION_SAMPLES, OSCILLATOR, OVERDRIVE_MATCH, OVERDRIVE_SKIP, RATE, READ_ROM,
-    RESUME, RO, SKIP_ROM, STAMP, STATUS, SUTA, THF, TLFS, WFTA, WRITE_SCRATCHPAD, clock_after, new)
+    ALARMS, BOR, CLOCK, CODE_L, CODE_T, CONTROL, DELAY, DEVICE_SAMPLES, EHSS, ETHA, ETL, ETLA, HOURS_12, IMAGE_LENGTH,
+    LATEST, LOG_IN_IMAGE, MEMCLR, MIP, MISSION_SAMPLES, OSCILLATOR, OVERDRIVE_MATCH, OVERDRIVE_SKIP, PM, RATE, READ_ROM,
+    RESUME, RO, SKIP_ROM, STAMP, STATUS, SUTA, THF, TLFS, WFTA, WRITE_SCRATCHPAD, bcd_value, clock_after, new)
 
 ROM = bytes.fromhex("412BC5FB000000A1")
 HEAD = ROM + bytes((CODE_L,))
@@ -83,9 +83,34 @@ def clock_points(points):
             ("595923301324", "000000311324"), ("595923311324", "000000010125"), ("595923310024", "000000010125"),
             ("5959232802A4", "0000000103A4"), ("5959233112A4", "000000018100"),
             ("5A0000010100", "000100010100"), ("600000010100", "000100010100"), ("591A00010100", "000001010100"),
-            ("595924010100", "000000020100"), ("00FFFFFFFFFF", "017F3F3F9FFF"), ("595923318924", "000000019024")):
-        got = bytes(clock_after(bytes.fromhex(before))).hex().upper()
-        points.equal(f"clock {before}", got, after)
+            ("595924010100", "000000020100"), ("00FFFFFFFFFF", "017F7F3F9FFF"), ("595923318924", "000000019024")):
+        points.equal(f"clock {before}", stepped(before), after)
+
+
+def stepped(clock):
+    return bytes(clock_after(bytes.fromhex(clock))).hex().upper()
+
+
+def twelve_hour_points(points):
+    """Request #104: 11 AM goes on to 12 PM; 11 PM and an hour not valid in its form carry, and the form stays."""
+    for hours, date in (("52 41, 49 50, 51 72, 72 61, 69 70", 15), ("23 00, 24 00", 16),
+                        ("71 52, 40 52, 53 52, 4A 52, 60 52, 7F 52", 16)):
+        for before, after in map(str.split, hours.split(",")):
+            points.equal(f"hour {before}h", stepped(f"5959{before}150624"), f"0000{after}{date}0624")
+    for before, after in (("595971311299", "000052018100"), ("595951280223", "000072280223"),
+                          ("595971280224", "000052290224"), ("58597F150624", "59597F150624")):
+        points.equal(f"clock {before}", stepped(before), after)
+    points.equal("the hours in plain numbers",
+                 [bcd_value(hour & 0x1F) % 12 + (12 if hour & PM else 0) for hour in HOURS_12], list(range(24)))
+    master = new_master()
+    master.store(0x0200, b"\xFF" * 32)
+    master.skip()
+    points.equal("FFh copied to 0202h", master.read_memory(0x0202, 1)[0], b"\x7F")
+    tag = begin(new_master(), clock="585971150624").tag
+    for clock in ("595971150624", "000052160624"):
+        tag.tick(672)
+        points.equal(f"clock {clock}", tag.image[CLOCK:CLOCK + 6].hex(), clock)
+    points.equal("the stamp as it is", dock.listing(dock.dump(tag)).split(b"\n")[0], b"4000000002595971150624")
 
 
 def one_entry(code, entry):
@@ -320,14 +345,14 @@ def other_image_points(points):
     points.equal("rate 0: the delay falls, no conversion", (image[DELAY], master.tag.number(DEVICE_SAMPLES)), (0, 0))
     image[0x0200:0x0240] = b"\xFF" * 64
     points.equal("bits read through the tables", bytes(map(master.tag.byte_at, range(0x0200, 0x0240))).hex().upper(),
-                 "7F7F3F3F9FFFFF3FFFFF0000E0FF0000" "03FC03F5F3DAFFFFFFFFFFFFFFFFFF00"
+                 "7F7F7F3F9FFFFF3FFFFF0000E0FF0000" "03FC03F5F3DAFFFFFFFFFFFFFFFFFF00"
                  "FFFFFFFFFFFF40FF" + "00" * 24)
     image[OSCILLATOR], image[STAMP + 5] = EHSS, 0
     image[MISSION_SAMPLES:MISSION_SAMPLES + 3], image[STATUS], image[DELAY:DELAY + 3] = bytes(3), MIP, bytes(3)
     master.tag.until_conversion = 0
     master.tick(1)
     points.equal("the stamp without the clock's unnamed bits", bytes(image[STAMP:STAMP + 6]).hex().upper(),
-                 "7F7F3F3F9FFF")
+                 "7F7F7F3F9FFF")
 
 
 def other_waiting_points(points):
@@ -489,10 +514,10 @@ def half_heard_points(points):
 
 def main():
     points = Points()
-    for check in (crc_points, clock_points, temperature_points, alarm_points, rate_points, scratchpad_points,
-                  full_point, suta_points, alarm_start_points, rollover_points, history_points, listing_points,
-                  forced_points, other_image_points, other_waiting_points, sheet_mission, program_points,
-                  password_points, line_points, speed_points, overdrive_points, half_heard_points):
+    for check in (crc_points, clock_points, twelve_hour_points, temperature_points, alarm_points, rate_points,
+                  scratchpad_points, full_point, suta_points, alarm_start_points, rollover_points, history_points,
+                  listing_points, forced_points, other_image_points, other_waiting_points, sheet_mission,
+                  program_points, password_points, line_points, speed_points, overdrive_points, half_heard_points):
         check(points)
     print(f"{points.passed} passed, {points.failed} failed")
     return 1 if points.failed else 0

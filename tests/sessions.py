@@ -13,9 +13,9 @@ from model.master import Master
 from model.programs import play
 from model.tag import (
     ALARMS, BOR, CLEAR, CODE_L, CODE_T, CONDITIONAL_SEARCH, COPY_SCRATCHPAD, EHSS, EOSC, ETL, ETLA, FAMILY,
-    FORCED_CONVERSION, FULL_PASSWORD, IMAGE_LENGTH, MATCH_ROM, MIP, OVERDRIVE_MATCH, OVERDRIVE_SKIP, PASSWORD_CONTROL,
-    READ_MEMORY, READ_PASSWORD, READ_ROM, READ_SCRATCHPAD, RESUME, RO, SEARCH_ROM, SKIP_ROM, START, STATUS, STOP, SUTA,
-    THF, TLF, TLFS, WRITE_SCRATCHPAD, bcd, new)
+    FORCED_CONVERSION, FULL_PASSWORD, HOURS_12, HOURS_24, IMAGE_LENGTH, MATCH_ROM, MIP, OVERDRIVE_MATCH,
+    OVERDRIVE_SKIP, PASSWORD_CONTROL, READ_MEMORY, READ_PASSWORD, READ_ROM, READ_SCRATCHPAD, RESUME, RO, SEARCH_ROM,
+    SKIP_ROM, START, STATUS, STOP, SUTA, THF, TLF, TLFS, WRITABLE, WRITE_SCRATCHPAD, bcd, new)
 
 ROM_COMMANDS = (READ_ROM, MATCH_ROM, SEARCH_ROM, CONDITIONAL_SEARCH, SKIP_ROM, RESUME, OVERDRIVE_SKIP, OVERDRIVE_MATCH)
 MEMORY_COMMANDS = (WRITE_SCRATCHPAD, READ_SCRATCHPAD, COPY_SCRATCHPAD, READ_MEMORY, CLEAR, START, STOP,
@@ -30,7 +30,13 @@ EDGE_CLOCKS = (
     "595923300404", "595923310404", "595923310007", "595923311307", "595923301F07", "5959233012A4", "59592331129A",
     "5959232802A4", "5959232902A4", "595923000101", "5959233F0101", "59593F010101", "597F00010101", "7F0000010101",
     "595924010101", "591A00010101", "0A0000010101", "595923300999", "595923309999", "5959233112FF", "5A5A2A3A1AAA",
-    "FFFFFFFFFFFF", "000000000000", "595909091199", "595919190909", "595923318999", "595923100B12", "60602432133B")
+    "FFFFFFFFFFFF", "000000000000", "595909091199", "595919190909", "595923318999", "595923100B12", "60602432133B",
+    # The twelve-hour form: the ends of its runs of hours, and hours that are not valid in it.
+    "595952311299", "595941300404", "5959712802A4", "595949280223", "595950319299", "595951311299", "595951280224",
+    "595951150624", "595972319299", "595972310104", "595961290224", "595971000101", "595969310104", "595970300404",
+    "595971311299", "595971319299", "595971280223", "595971280224", "595971280200", "595971150624", "585971150624",
+    "595940311299", "59594A300404", "595953280223", "59595A280224", "59595F319299", "595960311299", "59596A310404",
+    "595973319299", "59597A290224", "59597F300999", "58597F010101", "597F71311299", "5A5951280223", "5A5A6A3A1AAA")
 
 
 class Session:
@@ -132,13 +138,14 @@ class Session:
             return bytes.fromhex(self.rng.choice(EDGE_CLOCKS))
         rng = self.rng
         month = bcd(rng.randint(1, 12)) | rng.choice((0, 0x80))
-        return bytes((bcd(rng.randrange(60)), bcd(rng.randrange(60)), bcd(rng.randrange(24)), bcd(rng.randint(1, 28)),
-                      month, bcd(rng.randrange(100))))
+        return bytes((bcd(rng.randrange(60)), bcd(rng.randrange(60)), rng.choice(HOURS_24 + HOURS_12),
+                      bcd(rng.randint(1, 28)), month, bcd(rng.randrange(100))))
 
     def settings(self, rate=1, control=ETL, oscillator=EHSS, delay=0, thresholds=None, enable=None, clock=None):
         """The page 0200h as a master may write it: what isn't writable is random."""
         page = bytearray(self.rng.randbytes(32))
-        page[0:6] = clock or self.clock()
+        for place, byte in enumerate(clock or self.clock()):
+            page[place] = byte | page[place] & ~WRITABLE[place]
         page[6:8] = rate.to_bytes(2, "little")
         page[8:10] = thresholds or bytes((self.rng.randrange(256), self.rng.randrange(256)))
         page[0x10] = self.rng.randrange(256) if enable is None else enable
@@ -538,14 +545,15 @@ def stranger(session):
 # ---- Kinds: clock ----
 
 def clock_edges(session):
-    """Edge values and ends of any days, with the seconds that follow, on their own or within a mission."""
+    """Edge values and ends of any days, as stored and with the seconds that follow, on their own or within a mission."""
     rng = session.rng
-    clocks = [bytes.fromhex(edge) for edge in rng.sample(EDGE_CLOCKS, rng.randint(8, 16))]
-    clocks += [b"\x59\x59\x23" + rng.choice((b"\x28", b"\x29", b"\x30", b"\x31")) + rng.randbytes(2) for _ in range(4)]
+    clocks = [bytes.fromhex(edge) for edge in rng.sample(EDGE_CLOCKS, rng.randint(20, 28))]
+    clocks += [bytes((0x59, 0x59, rng.choice((0x23, 0x71)), rng.choice((0x28, 0x29, 0x30, 0x31)))) + rng.randbytes(2)
+               for _ in range(4)]
     for edge in clocks:
         oscillator = rng.choice((EOSC, EOSC, EOSC, EOSC, 0, EOSC | EHSS))
         session.store(0x0200, session.settings(clock=edge, oscillator=oscillator))
-        session.ticks(rng.choice((1, 1, 1, 2, 61)))
+        session.ticks(rng.choice((0, 1, 1, 1, 2, 61)))
         session.look_at(0x0200, 6)
         if session.chance(0.1):
             session.start(rate=1, oscillator=rng.choice((EHSS, EHSS | EOSC)), delay=0)
@@ -557,13 +565,14 @@ def clock_edges(session):
 
 
 def long_clock(session):
-    """Carries as they come, over hours: any date, ticks enough to pass midnight."""
-    clock = bytearray(session.clock())
-    clock[2] = session.rng.choice((0x22, 0x23, 0x2A, 0x21))
-    session.store(0x0200, session.settings(oscillator=EOSC, clock=clock))
-    for _ in range(session.rng.randint(2, 3)):
-        session.ticks(session.rng.randint(500, 3600))
-        session.look_at(0x0200, 6)
+    """Carries as they come, over hours: any date, ticks enough to pass midnight in either form, and noon with PM."""
+    for hours in ((0x21, 0x22, 0x23, 0x2A), (0x50, 0x51), (0x70, 0x71, 0x7A)):
+        clock = bytearray(session.clock())
+        clock[2] = session.rng.choice(hours)
+        session.store(0x0200, session.settings(oscillator=EOSC, clock=clock))
+        for _ in range(2):
+            session.ticks(session.rng.randint(500, 3600))
+            session.look_at(0x0200, 6)
 
 
 # ---- Kinds: missions ----

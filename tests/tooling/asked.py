@@ -46,6 +46,8 @@ def exports():
     yield "JSON, its figures", right, found
     empty = json.loads(shown("table", "-", "--json", stdin=listing(stamp="000000000000")))
     yield "JSON of no entry", empty["entries"] == [] and empty["summary_celsius_seconds"] is None, empty
+    night = json.loads(shown("table", "-", "--json", stdin=listing((0, 0, 100), stamp="003052121126")))["stamp"]
+    yield "JSON of a twelve-hour stamp", night == {"bytes": "003052121126", "time": "2026-11-12T00:30:00"}, night
     alone = listing((0, -600, -1), stamp="0" * 12)
     no_dates = list(csv.reader(io.StringIO(shown("table", "-", "--csv", "--zone", "UTC", stdin=alone))))
     yield "CSV without dates", no_dates[1] == ["0", "", "", "-600", "-1", "-0.0625"], no_dates

@@ -119,6 +119,8 @@ def registers_read():
             ("report", {0x0213: 0xE5}, "every 10 min, 0.0625 °C an entry</dd>"),
             ("report", {0x0213: 0xE1}, ", 0.5 °C an entry</dd>"), ("report", {0x0215: 0}, "no mission was running any more"),
             ("report", {0x0214: 0x71}, "low (TLF)"), ("report", {0x0203: 0x32}, "no date and time"),
+            ("report", {0x0202: 0x64}, "<dd>2026-11-12 16:30:00</dd>"), ("report", {0x0202: 0x60}, "no date and time"),
+            ("table", {0x021B: 0x45}, "stamp is 2026-11-12 05:30:01"), ("table", {0x021B: 0x52}, "2026-11-12 00:30:01"),
             ("report", {0x0225: 1}, "66 in this mission, 65,602 in the tag")):
         got = shown(word, "-", stdin=with_registers(values))
         yield f"the {word} of a dump with registers {values}", says in got, got[:900]

@@ -1,4 +1,4 @@
-"""What is shown: odd logs, the figures, where it comes from, thresholds, long logs."""
+"""What is shown: odd logs, the clock's two forms, the figures, where it comes from, thresholds, long logs."""
 
 import hashlib
 import os
@@ -17,11 +17,15 @@ sys.path.insert(0, os.path.join(TOP, "tools"))
 
 from reader import listing as listings
 from reader import summary
+from reader.words import date_of
 
 ROM = "412BC5FB000000A1"
 VOID = {"meta", "br", "hr", "img", "link", "input"}
 DAY = [(k, 600 * k, 100 + k) for k in range(60)]
 FORMS = ("table", "picture", "report")
+# The hours of a day as the tag's clock has them, in the 24-hour and in the twelve-hour form.
+HOURS = (bytes.fromhex("000102030405060708091011121314151617181920212223"),
+         bytes.fromhex("524142434445464748495051726162636465666768697071"))
 
 
 # ---- Odd logs ----
@@ -37,6 +41,8 @@ ODD = (
     ("one entry twice", listing((3, 0, 5), (3, 0, 5)), "Entries are missing in 1 place"),
     ("no date", listing(*DAY, stamp="003005321126"), "00 30 05 32 11 26, which is no date and time"),
     ("no digits", listing(*DAY, stamp="0A3005121126"), "which is no date and time"),
+    ("12 PM", listing(*DAY, stamp="003072121126"), "the stamp is 2026-11-12 12:30:00"),
+    ("13 PM", listing(*DAY, stamp="003073121126"), "00 30 73 12 11 26, which is no date and time"),
     ("the next century", listing(*DAY, stamp="003005129126"), "the stamp is 2126-11-12 05:30:00"),
     ("centuries", listing(*((k, 982980 * k, k % 99) for k in range(8192))), "one every 11 d 9 h 3 min"),
     ("out of the calendar", listing((16000000, 982980 * 16000000, 5)), "they lead out of the calendar"),
@@ -83,6 +89,22 @@ class Page(HTMLParser):
 
     def whole(self):
         return not (self.open or self.wrong or self.loads)
+
+
+# ---- The clock's two forms ----
+
+def hours():
+    """Each byte is read in the form that its bit 6 names, and the times of a log are the same in both."""
+    due = {byte: hour for form in HOURS for hour, byte in enumerate(form)}
+    read = {byte: date_of(bytes((0x59, 0x59, byte, 0x12, 0x11, 0x26))) for byte in range(256)}
+    wrong = [f"{byte:02X}: {got}" for byte, got in read.items()
+             if got != (datetime(2026, 11, 12, due[byte], 59, 59) if byte in due else None)]
+    yield "every hours byte", not wrong, wrong
+    for hour in (0, 1, 11, 12, 13, 23):
+        stamps = (f"0030{form[hour]:02X}121126" for form in HOURS)
+        one, other = (shown("table", "-", "--csv", stdin=listing(*DAY, stamp=stamp)) for stamp in stamps)
+        right = one == other and f"\n0,2026-11-12 {hour:02d}:30:00,0," in one
+        yield f"the times of a log from {hour}:30 on, in both forms", right, other[:300]
 
 
 # ---- The figures ----
@@ -181,5 +203,5 @@ def long_logs():
 
 
 def checks():
-    for group in (odd_logs, figures, evidence, at_overdrive, thresholds, long_logs):
+    for group in (odd_logs, hours, figures, evidence, at_overdrive, thresholds, long_logs):
         yield from group()

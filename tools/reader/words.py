@@ -12,14 +12,27 @@ DAYS_OF_ZONES = timedelta(days=2)  # more than any two zones are apart
 
 def date_of(fields):
     """Six clock bytes as a date and time, or None if they are none. CENT 0 is 20xx, as in the makers' mission example."""
-    digits = [*fields[:4], fields[4] & 0x7F, fields[5]]
-    if any(field & 0x0F > 9 or field >> 4 > 9 for field in digits):
-        return None
-    second, minute, hour, date, month, year = (10 * (field >> 4) + (field & 0x0F) for field in digits)
+    seconds, minutes, hours, date, month, year = fields
     try:
-        return datetime(2000 + 100 * (fields[4] >> 7) + year, month, date, hour, minute, second)
+        return datetime(2000 + 100 * (month >> 7) + decimal(year), decimal(month & 0x7F), decimal(date), hour_of(hours),
+                        decimal(minutes), decimal(seconds))
     except ValueError:
         return None
+
+
+def hour_of(byte):
+    """Of the day. In the twelve-hour form, bit 6 one, bit 5 is PM and the rest 12 or 1 to 11; else a ValueError."""
+    if not byte & 0x40:
+        return decimal(byte)
+    hour = decimal(byte & 0x9F)  # bit 7 stays, and makes it no hour
+    if not 1 <= hour <= 12:
+        raise ValueError(f"{byte:02X}")
+    return hour % 12 + (12 if byte & 0x20 else 0)
+
+
+def decimal(byte):
+    """The number that its two digits are; a ValueError if one is above 9."""
+    return int(f"{byte:X}")
 
 
 def calendar_start(listing):

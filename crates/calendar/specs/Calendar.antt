@@ -1,8 +1,9 @@
--- The clock, "seconds, minutes, hours, date, month with CENT in bit 7, year, all BCD; 24-hour only" (document 01, "Memory"),
--- and one second on ("A mission"). Assumes nothing.
+-- The clock, "seconds, minutes, hours, date, month with CENT in bit 7, year, all BCD" (document 01, "Memory"), its hours in the form
+-- that bit 6 gives (request #104), and one second on ("A mission"). Assumes nothing.
 use mathlib.Core.Bool.{Bool, true, false, not, _&&_, _||_}
 use Prim.Native.Nat.{ℕ, zero, suc, _+_, _-_, _*_, _/_, _%_, _≤_}
 use lib.Dec.{leb, ltb, eqb}
+use Rattle.bits.specs.Bits.{bitOf}
 use Rattle.bits.specs.Choose.{if_then_else_}
 use Rattle.calendar.specs.declared.Clock.{Clock}
 use Rattle.calendar.specs.declared.Stepped.{Stepped}
@@ -22,7 +23,20 @@ pub record Digits (byte : ℕ) : Type 0 where
 
 -- ---- one field
 
--- a valid field: no digit above 9, and not outside lowest .. last (BCD bytes stand in the order of their numbers)
+-- what a field runs through: which bytes are its values, the first and the last of them, and what follows any but the last
+pub record Order : Type 0 where
+  pub lowest : ℕ
+  pub last : ℕ
+  pub isValue : ℕ → Bool
+  pub after : ℕ → ℕ
+
+-- "a field at its last value, or not valid, returns to its lowest and carries"
+unfoldable pub stepAlong : Order → ℕ → Stepped
+stepAlong order byte =
+    if eqb byte (order .last) || not (order .isValue byte) then record { byte = order .lowest; carry = true }
+    else record { byte = order .after byte; carry = false }
+
+-- no digit above 9, and not outside lowest .. last (BCD bytes stand in the order of their numbers)
 unfoldable pub isValid : ℕ → ℕ → ℕ → Bool
 isValid lowest last byte = leb (byte / 16) 9 && leb (byte % 16) 9 && leb lowest byte && leb byte last
 
@@ -30,11 +44,12 @@ isValid lowest last byte = leb (byte / 16) 9 && leb (byte % 16) 9 && leb lowest 
 unfoldable pub plusOne : ℕ → ℕ
 plusOne byte = if eqb (byte % 16) 9 then byte + 7 else byte + 1
 
--- "a field at its last value, or not valid, returns to its lowest and carries"
+-- a field that counts in BCD from lowest to last
+abbrev pub counting : ℕ → ℕ → Order
+counting lowest last = record { lowest = lowest; last = last; isValue = isValid lowest last; after = plusOne }
+
 unfoldable pub stepField : ℕ → ℕ → ℕ → Stepped
-stepField lowest last byte =
-    if eqb byte last || not (isValid lowest last byte) then record { byte = lowest; carry = true }
-    else record { byte = plusOne byte; carry = false }
+stepField lowest last byte = stepAlong (counting lowest last) byte
 
 -- a field steps on the carry of the field before it; else it stays, whatever it holds
 unfoldable pub carried : Stepped → (ℕ → Stepped) → ℕ → Stepped
@@ -42,9 +57,26 @@ carried before step byte = if before .carry then step byte else record { byte = 
 
 -- ---- the fields that are not alike
 
--- "24-hour only"
+-- "With bit 6 one, bit 5 is PM and the rest runs 12, 1 to 11; 11 AM goes to 12 PM" (#104): 52 (12 AM), 41 to 49, 50, 51, then
+-- 72 (12 PM), 61 to 69, 70, 71
+unfoldable pub hourAfter : ℕ → ℕ
+hourAfter byte =
+    if eqb byte 0x52 then 0x41
+    else if eqb byte 0x51 then 0x72
+    else if eqb byte 0x72 then 0x61
+    else plusOne byte
+
+abbrev pub twelveHours : Order
+twelveHours =
+    record { lowest = 0x52; last = 0x71; isValue = λ byte. isValid 0x41 0x52 byte || isValid 0x61 0x72 byte; after = hourAfter }
+
+-- the hours' values in the form of the byte: "An hour not valid in its form returns to 00 or to 12 AM and carries, and the form bit
+-- stays"
+abbrev pub hoursIn : ℕ → Order
+hoursIn byte = if bitOf byte 6 then twelveHours else counting 0x00 0x23
+
 unfoldable pub stepHours : ℕ → Stepped
-stepHours byte = stepField 0x00 0x23 byte
+stepHours byte = stepAlong (hoursIn byte) byte
 
 -- "month with CENT in bit 7": the month is bits 4-0, which step below CENT
 unfoldable pub stepMonth : ℕ → Stepped

@@ -1,6 +1,8 @@
 -- The clock in plain numbers: what a valid clock is, and how many seconds of its century are over. Nothing here looks at the
 -- clock's step, so that the two can be held against each other. Assumes nothing.
+use mathlib.Core.Path.{_≡_}
 use mathlib.Core.List.{[], _∷_}
+use mathlib.Core.Logic.{_⊎_}
 use Prim.Native.Nat.{ℕ, zero, suc, _+_, _-_, _*_, _/_, _%_, _≤_}
 use lib.Dec.{eqb}
 use lib.ListN.{getD}
@@ -9,6 +11,7 @@ use Rattle.calendar.specs.declared.Clock.{Clock}
 use Rattle.calendar.specs.Calendar.{decimal, Digits}
 pub mod Sums
 pub mod Fields
+pub mod Hours
 pub mod Months
 pub mod Days
 pub mod Seconds
@@ -51,9 +54,17 @@ monthsOver c = decimal (c .month % 128) - 1
 unfoldable pub daysOver : Clock → ℕ
 daysOver c = sumBelow yearLength (yearOf c) + sumBelow (monthLength (yearOf c)) (monthsOver c) + (decimal (c .date) - 1)
 
+-- the form of the hours' byte, by bit 6 (request #104): 1 the twelve-hour form, 0 the other
+unfoldable pub formOf : ℕ → ℕ
+formOf hours = hours / 64 % 2
+
+-- the hours of the day that are over: "With bit 6 one, bit 5 is PM and the rest runs 12, 1 to 11"
+unfoldable pub hourOf : ℕ → ℕ
+hourOf hours = if eqb (formOf hours) 1 then decimal (hours % 32) % 12 + 12 * (hours / 32 % 2) else decimal hours
+
 -- the seconds of the century that are over
 unfoldable pub secondsOf : Clock → ℕ
-secondsOf c = decimal (c .seconds) + 60 * (decimal (c .minutes) + 60 * (decimal (c .hours) + 24 * daysOver c))
+secondsOf c = decimal (c .seconds) + 60 * (decimal (c .minutes) + 60 * (hourOf (c .hours) + 24 * daysOver c))
 
 -- a hundred years: 36,525 days
 abbrev pub century : ℕ
@@ -71,11 +82,15 @@ pub record Writes (lowest last byte : ℕ) : Type 0 where
   pub above : lowest ≤ decimal byte
   pub below : decimal byte ≤ last
 
+-- an hour in its form: from 0 to 23; or, above it bit 6 and PM alone, from 1 to 12
+abbrev pub WritesHour : ℕ → Type 0
+WritesHour hours = Writes 0 23 hours ⊎ (hours / 64 ≡ 1 × Writes 1 12 (hours % 32))
+
 -- each field "BCD" and in its range, the date's by its month and year; above the month stands CENT alone
 pub record Valid (c : Clock) : Type 0 where
   pub seconds : Writes 0 59 (c .seconds)
   pub minutes : Writes 0 59 (c .minutes)
-  pub hours : Writes 0 23 (c .hours)
+  pub hours : WritesHour (c .hours)
   pub date : Writes 1 (monthLength (yearOf c) (monthsOver c)) (c .date)
   pub month : Writes 1 12 (c .month % 128)
   pub cent : centOf c ≤ 1

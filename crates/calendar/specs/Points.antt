@@ -1,8 +1,9 @@
 -- What a step makes of fields that are not valid, computed from the definition. Assumes nothing.
 use mathlib.Core.Path.{_≡_, refl}
 use Prim.Native.Nat.{ℕ}
+use Rattle.bits.specs.Bits.{bitOf}
 use Rattle.calendar.specs.declared.Clock.{Clock}
-use Rattle.calendar.specs.Calendar.{decimal, isValid, plusOne, stepField, carried, stepHours, stepMonth, flipped, isLeap, daysIn, nextDay, nextSecond}
+use Rattle.calendar.specs.Calendar.{decimal, isValid, plusOne, stepAlong, stepField, carried, stepHours, stepMonth, flipped, isLeap, daysIn, nextDay, nextSecond}
 
 -- six bytes as the document prints them
 abbrev pub bytes : ℕ → ℕ → ℕ → ℕ → ℕ → ℕ → Clock
@@ -19,5 +20,5 @@ pub invalid-points :
     × (nextSecond (bytes 0x59 0x59 0x23 0x31 0x9F 0x23) ≡ bytes 0x00 0x00 0x00 0x01 0x81 0x24)
     × (nextSecond (bytes 0x59 0x59 0x23 0x28 0x02 0x2C) ≡ bytes 0x00 0x00 0x00 0x01 0x03 0x2C)
     × (nextSecond (bytes 0x59 0x59 0x23 0x31 0x92 0xFF) ≡ bytes 0x00 0x00 0x00 0x01 0x01 0x00)
-unfolding nextSecond nextDay carried stepHours stepMonth stepField isValid plusOne flipped isLeap daysIn decimal
+unfolding bitOf nextSecond nextDay carried stepHours stepMonth stepAlong stepField isValid plusOne flipped isLeap daysIn decimal
 invalid-points = (refl, refl, refl, refl, refl, refl, refl)

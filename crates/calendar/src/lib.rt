@@ -1,7 +1,9 @@
 // The clock's six BCD fields, one second on. A field at its last value, or not valid, returns to its lowest and carries to
-// the next; a field is looked at only when it steps. Every function answers any six bytes.
+// the next; a field is looked at only when it steps. The hours run in the form that their bit 6 gives. Every function answers any
+// six bytes.
+ghost use mathlib.Core.Bool.{true, false};
 ghost use mathlib.Core.Path.{_≡_};
-ghost use Rattle.calendar.specs.Calendar.{isValid, stepField, stepHours, stepMonth, isLeap, daysIn, flipped, nextDay, nextSecond};
+ghost use Rattle.calendar.specs.Calendar.{isValid, stepAlong, twelveHours, stepField, stepHours, stepMonth, isLeap, daysIn, flipped, nextDay, nextSecond};
 
 // The registers 0200h-0205h. `month` holds CENT in bit 7 and the month in bits 4-0.
 pub struct Clock {
@@ -72,11 +74,38 @@ pub fn step_seconds(byte: u8) -> Stepped
     step(0x00, 0x59, byte)
 }
 
-// The hours, 24 a day.
+// The hours, 24 a day, in the form that bit 6 gives.
 fn step_hours(byte: u8) -> Stepped
     ensures { λ r. ⌜ r ≡ stepHours byte ⌝ }
 {
-    step(0x00, 0x23, byte)
+    if bits::bit(byte as u64, 6) {
+        step_twelve(byte)
+    } else {
+        step(0x00, 0x23, byte)
+    }
+}
+
+// The hours of the twelve-hour form, PM in bit 5, as they follow each other: 12, 1 to 11, and the same again with PM.
+fn step_twelve(byte: u8) -> Stepped
+    ensures { λ r. ⌜ r ≡ stepAlong twelveHours byte ⌝ }
+{
+    if byte == 0x71 || !is_twelve(byte) {
+        return returned(0x52);
+    }
+    match byte {
+        0x52 => gone_on(0x41),
+        0x51 => gone_on(0x72),
+        0x72 => gone_on(0x61),
+        0x49 | 0x69 => gone_on(byte + 7),
+        _ => gone_on(byte + 1),
+    }
+}
+
+// From 1 AM to 12 AM, or from 1 PM to 12 PM, as their bytes stand.
+fn is_twelve(byte: u8) -> bool
+    ensures { λ r. ⌜ r ≡ twelveHours .isValue byte ⌝ }
+{
+    valid(0x41, 0x52, byte) || valid(0x61, 0x72, byte)
 }
 
 // The month's byte: CENT is kept as the month steps.
@@ -125,22 +154,29 @@ fn step(lowest: u8, last: u8, byte: u8) -> Stepped
     ensures { λ r. ⌜ r ≡ stepField lowest last byte ⌝ }
 {
     if byte == last || !valid(lowest, last, byte) {
-        Stepped {
-            byte: lowest,
-            carry: true,
-        }
+        returned(lowest)
     } else if byte % 16 == 9 {
-        let next = byte + 7;
-        Stepped {
-            byte: next,
-            carry: false,
-        }
+        gone_on(byte + 7)
     } else {
-        let next = byte + 1;
-        Stepped {
-            byte: next,
-            carry: false,
-        }
+        gone_on(byte + 1)
+    }
+}
+
+fn returned(lowest: u8) -> Stepped
+    ensures { λ r. ⌜ r ≡ record { byte = lowest; carry = true } ⌝ }
+{
+    Stepped {
+        byte: lowest,
+        carry: true,
+    }
+}
+
+fn gone_on(next: u8) -> Stepped
+    ensures { λ r. ⌜ r ≡ record { byte = next; carry = false } ⌝ }
+{
+    Stepped {
+        byte: next,
+        carry: false,
     }
 }
 

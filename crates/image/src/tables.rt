@@ -4,7 +4,7 @@
 pub const WRITABLE: [u8; 64] = [
     0x7F, // 0200h
     0x7F, // 0201h
-    0x3F, // 0202h
+    0x7F, // 0202h
     0x3F, // 0203h
     0x9F, // 0204h
     0xFF, // 0205h
@@ -141,7 +141,7 @@ pub const ALWAYS_ONE: [u8; 64] = [
 pub const NAMED: [u8; 64] = [
     0x7F, // seconds 0200h
     0x7F, // minutes 0201h
-    0x3F, // hours 0202h
+    0x7F, // hours 0202h
     0x3F, // date 0203h
     0x9F, // month and CENT 0204h
     0xFF, // year 0205h

@@ -10,5 +10,6 @@ pub mod Calls
 pub mod Batches
 pub mod Line
 pub mod Overdrive
+pub mod Clock
 pub mod Determinacy
 pub mod Points

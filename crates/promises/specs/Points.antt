@@ -7,7 +7,7 @@ use lib.Dec.{T, eqb}
 use lib.IntN.{ℤ, pos, negsuc}
 use lib.ListN.{take, drop}
 use Rattle.bits.specs.Bits.{digit, bitOf, bitsOf, numberOf, shiftIn, slotsOf, released}
-use Rattle.calendar.specs.Calendar.{nextSecond, nextDay, carried, stepHours, stepMonth, stepField, isValid, plusOne, flipped, isLeap, daysIn, decimal}
+use Rattle.calendar.specs.Calendar.{nextSecond, nextDay, carried, stepHours, stepMonth, stepAlong, hourAfter, stepField, isValid, plusOne, flipped, isLeap, daysIn, decimal}
 use Rattle.calendar.specs.declared.Clock.{Clock}
 use Rattle.crc.specs.Crc.{taps, crcBit, crcBits, crcByte, mask8, crc8Of, mask16, sentLow, sentHigh}
 use Rattle.dock.specs.Entries
@@ -77,6 +77,12 @@ long month next = dayAfter 0x30 month ++ dayAfter 0x31 month gives 0x31 ∷ mont
 
 abbrev pub short : ℕ → ℕ → Point
 short month next = dayAfter 0x29 month ++ dayAfter 0x30 month gives 0x30 ∷ month ∷ 0x01 ∷ next ∷ []
+
+-- hours and date after an hour of 15 June 24 has ended
+abbrev pub onHour : ℕ → List ℕ
+onHour hours =
+    let c = nextSecond (clock 0x59 0x59 hours 0x15 0x06 0x24) in
+    c .hours ∷ c .date ∷ []
 
 -- a mission's settings with this rate in minutes, for its history
 abbrev pub minutes : ℕ → Settings
@@ -153,6 +159,20 @@ further =
     ∷ long 0x13 0x01
     ∷ (six (nextSecond (clock 0x59 0x59 0x23 0x31 0x13 0x23)) gives 0x00 ∷ 0x00 ∷ 0x00 ∷ 0x01 ∷ 0x01 ∷ 0x24 ∷ [])
     ∷ (six (nextSecond (clock 0x59 0x59 0x23 0x28 0x02 0xA4)) gives 0x00 ∷ 0x00 ∷ 0x00 ∷ 0x01 ∷ 0x03 ∷ 0xA4 ∷ [])
+    -- request #104: "the rest runs 12, 1 to 11; 11 AM goes to 12 PM", 12 AM to 1, 9 to 10, 11 AM, 12 PM to 1, 9 PM to 10
+    ∷ (onHour 0x52 ++ onHour 0x49 ++ onHour 0x51 ++ onHour 0x72 ++ onHour 0x69 gives
+    0x41 ∷ 0x15 ∷ 0x50 ∷ 0x15 ∷ 0x72 ∷ 0x15 ∷ 0x61 ∷ 0x15 ∷ 0x70 ∷ 0x15 ∷ [])
+    -- "and 11 PM goes to 12 AM with the next date"
+    ∷ (onHour 0x71 gives 0x52 ∷ 0x16 ∷ [])
+    -- "An hour not valid in its form returns to 00 or to 12 AM and carries, and the form bit stays": 0, 13, digit A, 0 PM, all ones; and
+    -- 23 and 24 of the other form
+    ∷ (onHour 0x40 ++ onHour 0x53 ++ onHour 0x4A ++ onHour 0x60 ++ onHour 0x7F gives
+    0x52 ∷ 0x16 ∷ 0x52 ∷ 0x16 ∷ 0x52 ∷ 0x16 ∷ 0x52 ∷ 0x16 ∷ 0x52 ∷ 0x16 ∷ [])
+    ∷ (onHour 0x23 ++ onHour 0x24 gives 0x00 ∷ 0x16 ∷ 0x00 ∷ 0x16 ∷ [])
+    -- the century's end at 11 PM, noon on 28 February, and the leap day
+    ∷ (six (nextSecond (clock 0x59 0x59 0x71 0x31 0x12 0x99)) gives 0x00 ∷ 0x00 ∷ 0x52 ∷ 0x01 ∷ 0x81 ∷ 0x00 ∷ [])
+    ∷ (six (nextSecond (clock 0x59 0x59 0x51 0x28 0x02 0x23)) gives 0x00 ∷ 0x00 ∷ 0x72 ∷ 0x28 ∷ 0x02 ∷ 0x23 ∷ [])
+    ∷ (six (nextSecond (clock 0x59 0x59 0x71 0x28 0x02 0x24)) gives 0x00 ∷ 0x00 ∷ 0x52 ∷ 0x29 ∷ 0x02 ∷ 0x24 ∷ [])
     ∷ []
 
 -- ---- the test, and the statements
@@ -168,11 +188,11 @@ right [] = true
 right (p ∷ ps) = same (p .given) (p .said) && right ps
 
 pub points : T (right table)
-unfolding table taps crcBit crcBits mask8 crc8Of bitOf bitsOf xor temperatureOf nextSecond nextDay carried stepHours stepMonth stepField isValid plusOne flipped isLeap daysIn decimal isHigh isLow Mission.periodOf Entries.periodOf period
+unfolding table taps crcBit crcBits mask8 crc8Of bitOf bitsOf xor temperatureOf nextSecond nextDay carried stepHours stepMonth stepAlong hourAfter stepField isValid plusOne flipped isLeap daysIn decimal isHigh isLow Mission.periodOf Entries.periodOf period
     run slotOf stageSlot onLine asks stageAsks heardBit heardWhole addressHeard stored commandStage afterData shiftIn flatMap
 points = tt
 
 pub further-points : T (right further)
-unfolding further taps crcBit crcBits crcByte mask16 sentLow sentHigh bitOf bitsOf numberOf xor nextSecond nextDay carried stepHours stepMonth stepField isValid plusOne flipped isLeap daysIn decimal
+unfolding further taps crcBit crcBits crcByte mask16 sentLow sentHigh bitOf bitsOf numberOf xor nextSecond nextDay carried stepHours stepMonth stepAlong hourAfter stepField isValid plusOne flipped isLeap daysIn decimal
     run slotOf stageSlot onLine asks stageAsks heardBit heardWhole addressHeard stored commandStage afterData shiftIn flatMap firstByte afterCrc sentWhole outgoing sentBit sendAsks
 further-points = tt

@@ -6,7 +6,7 @@ use lib.Dec.{eqb}
 use native.Mathlib.Omega.{arith}
 use borrow.Author.Needs.{needs}
 use borrow.Author.Tests.{eq-eqb, ne-eqb}
-use Rattle.calendar.specs.Calendar.{isValid, stepField, plusOne}
+use Rattle.calendar.specs.Calendar.{isValid, stepAlong, stepField, plusOne}
 use Rattle.calendar.specs.Calendar.Laws.{Between, goes-on-between}
 use Rattle.calendar.proofs.step.Statement.{statement}
 use Rattle.calendar.proofs.step.Tie as tie
@@ -19,23 +19,23 @@ test c = ⊎-elim (λ w. simp (w .1, eq-eqb _ _ (w .0 .taken))) (λ w. simp (ne-
 between : (c : tie.Else2) → Between (c .before .before .args .lowest) (c .before .before .args .last) (c .before .before .args .byte)
 between c = goes-on-between _ _ _ (sym (test (c .before)) ∙ c .if2 .left)
 
-add-next : tie.Need-add-next
-add-next c = omega (arith, between (c .before))
+add-gone-on : tie.Need-add-gone-on
+add-gone-on c = omega (arith, between (c .before))
 
-add-next-2 : tie.Need-add-next-2
-add-next-2 c = omega (arith, between (c .before))
+add-gone-on-2 : tie.Need-add-gone-on-2
+add-gone-on-2 c = omega (arith, between (c .before))
 
 returns : tie.Need-returns
-unfolding stepField
-returns c = rw (← test (c .before), c .if2 .taken)
+unfolding stepField stepAlong
+returns c = rw (← test (c .before .before), c .before .if2 .taken) (c .returned .ensures)
 
 returns-2 : tie.Need-returns-2
-unfolding stepField plusOne
-returns-2 c = rw (← test (c .before .before), c .before .if2 .left) (rw (eq-eqb _ _ (c .if3 .taken)))
+unfolding stepField stepAlong plusOne
+returns-2 c = rw (← test (c .before .before .before), c .before .before .if2 .left, eq-eqb _ _ (c .before .if3 .taken)) (c .gone-on .ensures)
 
 returns-3 : tie.Need-returns-3
-unfolding stepField plusOne
-returns-3 c = rw (← test (c .before .before), c .before .if2 .left) (rw (ne-eqb _ _ (c .if3 .left)))
+unfolding stepField stepAlong plusOne
+returns-3 c = rw (← test (c .before .before .before), c .before .before .if2 .left, ne-eqb _ _ (c .before .if3 .left)) (c .gone-on2 .ensures)
 
 pub step-spec : {M : Type 1} → statement M
-step-spec = tie.close (search (needs, tie.spec, add-next, add-next-2, returns, returns-2, returns-3))
+step-spec = tie.close (search (needs, tie.spec, add-gone-on, add-gone-on-2, returns, returns-2, returns-3))

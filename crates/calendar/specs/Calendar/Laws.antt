@@ -1,6 +1,6 @@
 -- What a field's step gives, for any lowest and last value, and n seconds on. Assumes nothing.
 use mathlib.Core.Path.{_≡_, refl, ap, _∙_}
-use mathlib.Core.Bool.{true, false, not, _||_, and-eq-true-iff, or-true}
+use mathlib.Core.Bool.{Bool, true, false, not, _||_, and-eq-true-iff, or-true}
 use mathlib.Core.Logic.{_⊎_, inl, inr, ⊎-elim}
 use Prim.Native.Nat.{ℕ, zero, suc, _+_, _/_, _%_, _≤_, _<_}
 use native.Mathlib.Nat.{suc-add, zero-add}
@@ -10,7 +10,7 @@ use lib.Dec.{eqb}
 use Rattle.bits.specs.Choose.{either}
 use Rattle.bits.specs.Tests.{neither}
 use Rattle.calendar.specs.declared.Clock.{Clock}
-use Rattle.calendar.specs.Calendar.{Digits, isValid, plusOne, stepField, carried, stepHours, nextSecond, clockAfter}
+use Rattle.calendar.specs.Calendar.{Order, stepAlong, counting, Digits, isValid, plusOne, twelveHours, stepField, carried, stepHours, nextSecond, clockAfter}
 
 -- ---- a valid field
 
@@ -36,7 +36,22 @@ pub between-valid : {lowest last byte : ℕ} → Between lowest last byte → is
 unfolding isValid
 between-valid b = simp (le-leb _ _ (b .digits .tens), le-leb _ _ (b .digits .ones), le-leb _ _ (b .above), le-leb _ _ (b .below))
 
--- ---- one field's step
+-- ---- one field's step, along any values
+
+module _ (order : Order) where
+  pub along-last : stepAlong order (order .last) ≡ record { byte = order .lowest; carry = true }
+  unfolding stepAlong
+  along-last = simp (eq-eqb (order .last) (order .last) refl)
+
+  pub along-invalid : (byte : ℕ) → order .isValue byte ≡ false → stepAlong order byte ≡ record { byte = order .lowest; carry = true }
+  unfolding stepAlong
+  along-invalid byte e = rw (e, or-true (eqb byte (order .last)))
+
+  pub along-on : (byte : ℕ) → order .isValue byte ≡ true → ¬ (byte ≡ order .last) → stepAlong order byte ≡ record { byte = order .after byte; carry = false }
+  unfolding stepAlong
+  along-on byte v n = simp (ne-eqb byte (order .last) n, v)
+
+-- ---- one field's step, from lowest to last
 
 -- a field that does not return to its lowest is valid
 pub goes-on-between : (lowest last byte : ℕ) → (eqb byte last || not (isValid lowest last byte)) ≡ false → Between lowest last byte
@@ -44,17 +59,15 @@ goes-on-between lowest last byte e = valid-between (not-false _ (neither (eqb by
 
 pub step-last : (lowest last : ℕ) → stepField lowest last last ≡ record { byte = lowest; carry = true }
 unfolding stepField
-step-last lowest last = simp (eq-eqb last last refl)
+step-last lowest last = along-last (counting lowest last)
 
 pub step-invalid : (lowest last byte : ℕ) → isValid lowest last byte ≡ false → stepField lowest last byte ≡ record { byte = lowest; carry = true }
 unfolding stepField
-step-invalid lowest last byte e = rw (e, or-true (eqb byte last))
+step-invalid lowest last byte e = along-invalid (counting lowest last) byte e
 
 pub step-on : {lowest last byte : ℕ} → Between lowest last byte → byte < last → stepField lowest last byte ≡ record { byte = plusOne byte; carry = false }
 unfolding stepField
-step-on {lowest} {last} {byte} b h =
-    let other : byte ≡ last → ⊥ = λ e. omega arith in
-    simp (ne-eqb byte last other, between-valid b)
+step-on {lowest} {last} {byte} b h = along-on (counting lowest last) byte (between-valid b) (λ e. omega arith)
 
 -- past a 9 the byte goes on by seven, else by one
 pub plus-one : (byte : ℕ) → (byte % 16 ≡ 9 × plusOne byte ≡ byte + 7) ⊎ (¬ (byte % 16 ≡ 9) × plusOne byte ≡ byte + 1)
@@ -67,7 +80,7 @@ plus-one byte =
 pub step-cases : (lowest last byte : ℕ) →
     (stepField lowest last byte ≡ record { byte = lowest; carry = true })
     ⊎ (Between lowest last byte × byte < last × stepField lowest last byte ≡ record { byte = plusOne byte; carry = false })
-unfolding stepField
+unfolding stepField stepAlong
 step-cases lowest last byte =
     either (λ s. (s ≡ record { byte = lowest; carry = true }) ⊎ (Between lowest last byte × byte < last × s ≡ record { byte = plusOne byte; carry = false }))
     (eqb byte last || not (isValid lowest last byte)) (λ e. inl refl)
@@ -77,6 +90,15 @@ step-cases lowest last byte =
 pub step-le : {lowest last : ℕ} (byte : ℕ) → last % 16 ≤ 9 → lowest ≤ last → stepField lowest last byte .byte ≤ last
 step-le {lowest} {last} byte d h =
     ⊎-elim (λ e. rw e h) (λ g. rw (g .2) (⊎-elim (λ n. omega arith) (λ n. omega arith) (plus-one byte))) (step-cases lowest last byte)
+
+-- ---- the hours of the twelve-hour form
+
+pub twelve-between : (byte : ℕ) → twelveHours .isValue byte ≡ true → Between 0x41 0x52 byte ⊎ Between 0x61 0x72 byte
+twelve-between byte e = go (isValid 0x41 0x52 byte) refl
+  where
+    go : (am : Bool) → isValid 0x41 0x52 byte ≡ am → Between 0x41 0x52 byte ⊎ Between 0x61 0x72 byte
+    go true a = inl (valid-between a)
+    go false a = inr (valid-between (rw a at e))
 
 -- ---- one second on
 

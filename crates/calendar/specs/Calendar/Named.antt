@@ -9,17 +9,18 @@ use Rattle.calendar.specs.declared.Clock.{Clock}
 use Rattle.calendar.specs.declared.Stepped.{Stepped}
 use Rattle.calendar.specs.Calendar.{stepField, carried, stepHours, stepMonth, flipped, isLeap, daysIn, nextDay, nextSecond}
 use Rattle.calendar.specs.Calendar.Laws.{step-le}
+use Rattle.calendar.specs.Meaning.Hours.{step-below}
 
 -- CENT and bits 4-0
 record MonthNamed (byte : ℕ) : Type 0 where
   pub month : byte % 0x80 < 0x20
   pub cent : byte < 0x100
 
--- no bit is set outside 7F 7F 3F 3F 9F FF, the bits that 0200h-0205h name ("Writable bits by Copy", document 01, "Memory")
+-- no bit is set outside 7F 7F 7F 3F 9F FF, the bits that 0200h-0205h name ("Writable bits by Copy", document 01, "Memory"; 0202h by request #104)
 pub record Named (c : Clock) : Type 0 where
   pub seconds : c .seconds < 0x80
   pub minutes : c .minutes < 0x80
-  pub hours : c .hours < 0x40
+  pub hours : c .hours < 0x80
   pub date : c .date < 0x40
   pub month : c .month % 0x80 < 0x20
   pub cent : c .month < 0x100
@@ -67,19 +68,18 @@ module _ (c : Clock) (n : Named c) where
       }
 
 pub named-next : (c : Clock) → Named c → Named (nextSecond c)
-unfolding nextSecond stepHours
+unfolding nextSecond
 named-next c n =
     let seconds = stepField 0x00 0x59 (c .seconds) in
     let minutes = carried seconds (stepField 0x00 0x59) (c .minutes) in
     let hours = carried minutes stepHours (c .hours) in
     let second-le = step-le {lowest = 0x00} {last = 0x59} (c .seconds) (omega arith) (omega arith) in
     let minute-le = step-le {lowest = 0x00} {last = 0x59} (c .minutes) (omega arith) (omega arith) in
-    let hour-le = step-le {lowest = 0x00} {last = 0x23} (c .hours) (omega arith) (omega arith) in
     let same : Named (record { seconds = seconds .byte; minutes = minutes .byte; hours = hours .byte; date = c .date; month = c .month; year = c .year }) =
     record {
       seconds = omega arith;
       minutes = carried-keeps (λ b. b < 0x80) seconds (stepField 0x00 0x59) (c .minutes) (n .minutes) (omega arith);
-      hours = carried-keeps (λ b. b < 0x40) minutes stepHours (c .hours) (n .hours) (omega arith);
+      hours = carried-keeps (λ b. b < 0x80) minutes stepHours (c .hours) (n .hours) (step-below (c .hours));
       date = n .date;
       month = n .month;
       cent = n .cent;

@@ -1,12 +1,13 @@
--- The seconds that are over name the clock: the time of day by its rests, the day by its running sums. Assumes nothing.
+-- The seconds that are over name the clock of a form: the time of day by its rests, the day by its running sums. Assumes nothing.
 use mathlib.Core.Path.{_≡_}
 use Prim.Native.Nat.{_+_, _-_, _<_}
 use native.Mathlib.Omega.{arith}
 use Rattle.calendar.specs.declared.Clock.{Clock}
 use Rattle.calendar.specs.Calendar.{decimal}
-use Rattle.calendar.specs.Meaning.{sumBelow, yearLength, monthLength, centOf, yearOf, monthsOver, daysOver, secondsOf, Valid}
+use Rattle.calendar.specs.Meaning.{sumBelow, yearLength, monthLength, centOf, yearOf, monthsOver, daysOver, formOf, hourOf, secondsOf, Valid}
 use Rattle.calendar.specs.Meaning.Sums.{sum-terms}
 use Rattle.calendar.specs.Meaning.Fields.{decimal-injective}
+use Rattle.calendar.specs.Meaning.Hours.{hour-lt, hour-injective}
 use Rattle.calendar.specs.Meaning.Days.{year-lt}
 
 module _ (c d : Clock) (v : Valid c) (w : Valid d) (e : daysOver c ≡ daysOver d) where
@@ -21,19 +22,19 @@ module _ (c d : Clock) (v : Valid c) (w : Valid d) (e : daysOver c ≡ daysOver 
       sum-terms month (monthsOver c) (monthsOver d) _ _ (omega (arith, v .date)) long (rw (← same-year .0) at (same-year .1))
 
 same-time : (c d : Clock) → Valid c → Valid d → secondsOf c ≡ secondsOf d →
-    (decimal (c .seconds) ≡ decimal (d .seconds)) × (decimal (c .minutes) ≡ decimal (d .minutes)) × (decimal (c .hours) ≡ decimal (d .hours)) × (daysOver c ≡ daysOver d)
+    (decimal (c .seconds) ≡ decimal (d .seconds)) × (decimal (c .minutes) ≡ decimal (d .minutes)) × (hourOf (c .hours) ≡ hourOf (d .hours)) × (daysOver c ≡ daysOver d)
 unfolding secondsOf
 same-time c d v w e =
-    omega (arith, e, v .seconds .below, v .minutes .below, v .hours .below, w .seconds .below, w .minutes .below, w .hours .below)
+    omega (arith, e, v .seconds .below, v .minutes .below, hour-lt (v .hours), w .seconds .below, w .minutes .below, hour-lt (w .hours))
 
--- two valid clocks with equal seconds and equal CENT are one
-pub seconds-injective : {c d : Clock} → Valid c → Valid d → secondsOf c ≡ secondsOf d → centOf c ≡ centOf d → c ≡ d
+-- two valid clocks of one form with equal seconds and equal CENT are one
+pub seconds-injective : {c d : Clock} → Valid c → Valid d → formOf (c .hours) ≡ formOf (d .hours) → secondsOf c ≡ secondsOf d → centOf c ≡ centOf d → c ≡ d
 unfolding centOf yearOf monthsOver
-seconds-injective {c} {d} v w e f =
+seconds-injective {c} {d} v w form e f =
     let time = same-time c d v w e in
     let seconds = decimal-injective (v .seconds .digits) (w .seconds .digits) (time .0) in
     let minutes = decimal-injective (v .minutes .digits) (w .minutes .digits) (time .1) in
-    let hours = decimal-injective (v .hours .digits) (w .hours .digits) (time .2) in
+    let hours = hour-injective (v .hours) (w .hours) form (time .2) in
     let year = decimal-injective (v .year .digits) (w .year .digits) (same-year c d v w (time .3) .0) in
     let day = same-date c d v w (time .3) in
     let date = decimal-injective (v .date .digits) (w .date .digits) (omega (arith, day .1, v .date .above, w .date .above)) in

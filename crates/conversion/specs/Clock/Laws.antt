@@ -108,7 +108,7 @@ named-bits c =
     record {
       seconds = bitAnd (c .seconds) 0x7F;
       minutes = bitAnd (c .minutes) 0x7F;
-      hours = bitAnd (c .hours) 0x3F;
+      hours = bitAnd (c .hours) 0x7F;
       date = bitAnd (c .date) 0x3F;
       month = bitAnd (c .month) 0x9F;
       year = bitAnd (c .year) 0xFF;

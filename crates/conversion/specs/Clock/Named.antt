@@ -18,7 +18,7 @@ clock-named image =
     record {
       seconds = omega (arith, and-le-r (getD image 0x0200 0) 0x7F);
       minutes = omega (arith, and-le-r (getD image 0x0201 0) 0x7F);
-      hours = omega (arith, and-le-r (getD image 0x0202 0) 0x3F);
+      hours = omega (arith, and-le-r (getD image 0x0202 0) 0x7F);
       date = omega (arith, and-le-r (getD image 0x0203 0) 0x3F);
       month = rw (and-mod (getD image 0x0204 0) 0x9F 7) (omega (arith, and-le-r (getD image 0x0204 0 % 128) 0x1F));
       cent = omega (arith, and-le-r (getD image 0x0204 0) 0x9F);
@@ -42,7 +42,7 @@ clock-putClock image c fits n =
     ∙ rw (
       low-bits (c .seconds) 7 (n .seconds),
       low-bits (c .minutes) 7 (n .minutes),
-      low-bits (c .hours) 6 (n .hours),
+      low-bits (c .hours) 7 (n .hours),
       low-bits (c .date) 6 (n .date),
       month-bits (c .month) (n .month) (n .cent),
       low-bits (c .year) 8 (n .year),

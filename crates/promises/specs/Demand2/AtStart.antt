@@ -40,7 +40,7 @@ clockAt image =
     record {
       seconds = bitAnd (byteAt image 0x0200) 0x7F;
       minutes = bitAnd (byteAt image 0x0201) 0x7F;
-      hours = bitAnd (byteAt image 0x0202) 0x3F;
+      hours = bitAnd (byteAt image 0x0202) 0x7F;
       date = bitAnd (byteAt image 0x0203) 0x3F;
       month = bitAnd (byteAt image 0x0204) 0x9F;
       year = bitAnd (byteAt image 0x0205) 0xFF;

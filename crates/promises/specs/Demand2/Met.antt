@@ -42,7 +42,7 @@ StartMet = (s : State) (way : Way) (field : ℕ) → Reached s → field < 2 ^ 6
 -- the registers from 0200h on: a high alarm at 54h starts it after a delay of a minute, with a conversion every 2 s
 abbrev pub page : List ℕ
 page =
-    0x55 ∷ 0x58 ∷ 0x23 ∷ 0x31 ∷ 0x12 ∷ 0x99 ∷  -- 0200h clock: 23:58:55, 31 December 99
+    0x55 ∷ 0x58 ∷ 0x71 ∷ 0x31 ∷ 0x12 ∷ 0x99 ∷  -- 0200h clock: 11:58:55 PM, 31 December 99, in the twelve-hour form
     0x02 ∷ 0x00 ∷  -- 0206h rate
     0x00 ∷ 0x54 ∷  -- 0208h thresholds
     0x00 ∷ 0x00 ∷ 0x00 ∷ 0x00 ∷ 0x00 ∷ 0x00 ∷
@@ -78,14 +78,14 @@ abbrev pub lent : List ℤ
 lent = replicate 4 (pos 9)
 
 pub record ListedSo (new : State) : Type 0 where
-  -- three entries, and the stamp of entry 1: 00:00:00, 1 January 00, with CENT flipped
+  -- three entries, and the stamp of entry 1: 12:00:00 AM, 1 January 00, with CENT flipped, and the form as it was set
   pub listing : listingOf (dumped new) 4
       ≡ record {
         answer = Accepted;
         code = 0x40;
         held = 3;
         first = 0;
-        stamp = 0x00 ∷ 0x00 ∷ 0x00 ∷ 0x01 ∷ 0x81 ∷ 0x00 ∷ [];
+        stamp = 0x00 ∷ 0x00 ∷ 0x52 ∷ 0x01 ∷ 0x81 ∷ 0x00 ∷ [];
         rate = 2;
         ehss = true;
         suta = true;

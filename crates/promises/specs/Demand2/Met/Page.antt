@@ -97,7 +97,7 @@ settings =
       high = 0x54;
       etla = false;
       etha = true;
-      clock = record { seconds = 0x55; minutes = 0x58; hours = 0x23; date = 0x31; month = 0x12; year = 0x99 };
+      clock = record { seconds = 0x55; minutes = 0x58; hours = 0x71; date = 0x31; month = 0x12; year = 0x99 };
     }
 
 pub settings-clean : settingsOf clean ≡ settings

@@ -7,7 +7,8 @@ use native.Mathlib.Omega.{arith}
 use borrow.Author.Tests.{le-leb}
 use lib.Dec.{T, leb, leb→le}
 use lib.Ieee.Fits.{and-l, and-r}
-use Rattle.calendar.specs.Calendar.{clockAfter, nextSecond, nextDay, carried, stepHours, stepMonth, stepField, isValid, plusOne, flipped, isLeap, daysIn, decimal}
+use Rattle.bits.specs.Bits.{bitOf}
+use Rattle.calendar.specs.Calendar.{clockAfter, nextSecond, nextDay, carried, stepHours, stepMonth, stepAlong, stepField, isValid, plusOne, flipped, isLeap, daysIn, decimal}
 use Rattle.promises.specs.Demand2.Events.{deedAt, Spares, missionTicks}
 use Rattle.promises.specs.Demand2.Met.{readings}
 use Rattle.promises.specs.Demand2.Met.Page.{settings}
@@ -50,6 +51,6 @@ pub history-is : History.history settings readings ≡ entries
 unfolding History.history History.most History.places History.toLog History.fromAlarm History.alarms History.conversionsFrom History.isTime History.period
 history-is = refl
 
-pub stamp-is : History.stamp settings entries ≡ record { seconds = 0x00; minutes = 0x00; hours = 0x00; date = 0x01; month = 0x81; year = 0x00 }
-unfolding History.stamp History.clockAt clockAfter nextSecond nextDay carried stepHours stepMonth stepField isValid plusOne flipped isLeap daysIn decimal
+pub stamp-is : History.stamp settings entries ≡ record { seconds = 0x00; minutes = 0x00; hours = 0x52; date = 0x01; month = 0x81; year = 0x00 }
+unfolding History.stamp History.clockAt bitOf clockAfter nextSecond nextDay carried stepHours stepMonth stepAlong stepField isValid plusOne flipped isLeap daysIn decimal
 stamp-is = refl

@@ -1,0 +1,102 @@
+-- The clock as a person reads it, by the bytes of the image and over ticks (document 01, "A mission"; request #104): while EOSC is 1 a
+-- valid clock shows a second more at each tick, in the form that it was set to; two tags that show one moment, in one form or in both,
+-- go on showing one moment; and so does the stamp of a mission. What a clock shows is said by `calendar` `Meaning`, which does not look
+-- at the step. Assumes nothing.
+use mathlib.Core.Path.{_≡_, refl, sym, _∙_}
+use mathlib.Core.Bool.{Bool, true}
+use mathlib.Core.List.{List, [], _∷_, map}
+use Prim.Native.Nat.{ℕ, suc, _+_, _*_, _%_, _≤_}
+use lib.ListN.{length, drop}
+use Rattle.bits.specs.Bits.{digit}
+use Rattle.bits.specs.Choose.{if_then_else_}
+use Rattle.calendar.specs.Calendar.{nextSecond, clockAfter}
+use Rattle.calendar.specs.Calendar.Laws.{after-zero, after-next}
+use Rattle.calendar.specs.Meaning.{formOf, century, moment, Valid}
+use Rattle.calendar.specs.Meaning.Laws.{valid-after, form-after, moment-after}
+use Rattle.calendar.specs.declared.Clock.{Clock}
+use Rattle.image.specs.Fields.{flagAt}
+use Rattle.image.specs.Tables.{registerAt, named}
+use Rattle.conversion.specs.Clock.{clockOf}
+use Rattle.mission.specs.Mission
+use Rattle.mission.specs.Mission.Frames.{leaves-ticked}
+use Rattle.promises.specs.Demand2.AtStart.{bitAt, clockAt}
+use Rattle.promises.specs.Demand2.Course.{tick-leaves}
+use Rattle.promises.specs.History.{Settings, Conversion, stamp}
+use Rattle.promises.specs.History as history
+use Rattle.promises.specs.Line.Converting.{ticks-clock}
+use Rattle.promises.specs.Runs.{State, Event, after, run, Reached}
+use Rattle.promises.specs.Runs.Laws.{reached-sound, reached-after}
+pub mod Met
+
+-- ---- what is said
+
+-- n seconds later a clock shows n seconds more, round the two centuries that CENT tells apart, and its form is what it was
+pub record Later (n : ℕ) (c d : Clock) : Type 0 where
+  pub valid : Valid d
+  pub form : formOf (d .hours) ≡ formOf (c .hours)
+  pub moves : moment d ≡ (moment c + n) % (2 * century)
+
+-- a tag whose clock runs, EOSC (bit 0 of 0212h) being 1, and is valid: 0200h to 0205h, by their writable bits
+pub record Timed (s : State) : Type 0 where
+  pub reached : Reached s
+  pub eosc : bitAt (s .image) 0x0212 0 ≡ true
+  pub valid : Valid (clockAt (s .image))
+
+-- readings that a tick may have
+abbrev pub Readings : List ℕ → Type 0
+Readings [] = Unit {0}
+Readings (reading ∷ rest) = reading ≤ 2047 × Readings rest
+
+-- the state after ticks with these readings
+abbrev pub ticked : State → List ℕ → State
+ticked s readings = run s (map Event.tick readings) .state
+
+-- ---- why it holds
+
+clock-same : (image : List ℕ) → clockAt image ≡ clockOf image
+unfolding clockAt clockOf registerAt named
+clock-same image = refl
+
+flag-same : (image : List ℕ) → flagAt image 0x0212 0 ≡ bitAt image 0x0212 0
+unfolding flagAt
+flag-same image = refl
+
+module _ {s : State} (reached : Reached s) (reading : ℕ) (small : reading ≤ 2047) where
+  eosc-stays : bitAt (after s (Event.tick reading) .image) 0x0212 0 ≡ bitAt (s .image) 0x0212 0
+  unfolding flagAt
+  eosc-stays = rw (tick-leaves (reached-sound reached) reading small) (leaves-ticked (s .image) (s .tag .counters) reading .bits 0x0212 0 tt tt tt)
+
+  clock-tick : bitAt (s .image) 0x0212 0 ≡ true → clockAt (after s (Event.tick reading) .image) ≡ nextSecond (clockAt (s .image))
+  clock-tick e =
+      clock-same (after s (Event.tick reading) .image) ∙ ticks-clock reached reading small ∙ rw (flag-same (s .image), e, clock-same (s .image))
+
+clock-ticks : (s : State) → Reached s → bitAt (s .image) 0x0212 0 ≡ true → (readings : List ℕ) → Readings readings →
+    clockAt (ticked s readings .image) ≡ clockAfter (length readings) (clockAt (s .image))
+unfolding run
+clock-ticks s reached e [] small = sym (after-zero (clockAt (s .image)))
+clock-ticks s reached e (reading ∷ readings) (small, rest) =
+    let next = after s (Event.tick reading) in
+    clock-ticks next (reached-after reached (Event.tick reading)) (eosc-stays reached reading small ∙ e) readings rest
+    ∙ rw (clock-tick reached reading small e) (after-next (length readings) (clockAt (s .image)))
+
+later : (n : ℕ) {c : Clock} → Valid c → Later n c (clockAfter n c)
+later n {c} v = record { valid = valid-after n v; form = form-after n c; moves = moment-after n v }
+
+-- ---- the statements
+
+pub clock-shows : {s : State} → Timed s → (readings : List ℕ) → Readings readings →
+    Later (length readings) (clockAt (s .image)) (clockAt (ticked s readings .image))
+clock-shows {s} r readings small = rw (clock-ticks s (r .reached) (r .eosc) readings small) (later (length readings) (r .valid))
+
+-- two tags get ticks at the same places, with readings that may differ
+pub clocks-agree : {s t : State} → Timed s → Timed t → moment (clockAt (s .image)) ≡ moment (clockAt (t .image)) →
+    (p q : List ℕ) → Readings p → Readings q → length p ≡ length q →
+    moment (clockAt (ticked s p .image)) ≡ moment (clockAt (ticked t q .image))
+clocks-agree r u same p q small low e = rw (clock-shows r p small .moves, clock-shows u q low .moves, same, e)
+
+-- "The stamp copies the byte as it is": of a mission that was started with a valid clock, the stamp, which the first of these entries
+-- has set, shows as many seconds more as its tick's number, in the clock's form
+pub stamp-shows : (settings : Settings) (first : Conversion) (entries rest : List Conversion) → drop (digit (settings .suta)) entries ≡ first ∷ rest →
+    Valid (settings .clock) → Later (first .tick) (settings .clock) (stamp settings entries)
+unfolding stamp history.clockAt
+stamp-shows settings first entries rest e v = rw e (later (first .tick) v)
