@@ -3,12 +3,11 @@
 -- go on showing one moment; and so does the stamp of a mission. What a clock shows is said by `calendar` `Meaning`, which does not look
 -- at the step. Assumes nothing.
 use mathlib.Core.Path.{_≡_, refl, sym, _∙_}
-use mathlib.Core.Bool.{Bool, true}
+use mathlib.Core.Bool.{true}
 use mathlib.Core.List.{List, [], _∷_, map}
-use Prim.Native.Nat.{ℕ, suc, _+_, _*_, _%_, _≤_}
+use Prim.Native.Nat.{ℕ, _+_, _*_, _%_, _≤_}
 use lib.ListN.{length, drop}
 use Rattle.bits.specs.Bits.{digit}
-use Rattle.bits.specs.Choose.{if_then_else_}
 use Rattle.calendar.specs.Calendar.{nextSecond, clockAfter}
 use Rattle.calendar.specs.Calendar.Laws.{after-zero, after-next}
 use Rattle.calendar.specs.Meaning.{formOf, century, moment, Valid}
@@ -17,7 +16,6 @@ use Rattle.calendar.specs.declared.Clock.{Clock}
 use Rattle.image.specs.Fields.{flagAt}
 use Rattle.image.specs.Tables.{registerAt, named}
 use Rattle.conversion.specs.Clock.{clockOf}
-use Rattle.mission.specs.Mission
 use Rattle.mission.specs.Mission.Frames.{leaves-ticked}
 use Rattle.promises.specs.Demand2.AtStart.{bitAt, clockAt}
 use Rattle.promises.specs.Demand2.Course.{tick-leaves}

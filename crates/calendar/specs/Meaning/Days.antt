@@ -6,14 +6,15 @@ use mathlib.Core.Logic.{⊎-elim}
 use Prim.Native.Nat.{ℕ, suc, _+_, _-_, _*_, _/_, _%_, _≤_, _<_}
 use native.Mathlib.Nat.{add-zero}
 use native.Mathlib.Omega.{arith}
-use lib.Dec.{ltb, eqb, lit<, lit≤}
-use borrow.Author.Tests.{ltb-true, lt-ltb, le-ltb}
+use lib.Dec.{T, ltb, eqb, ltb→lt, lit<, lit≤}
+use borrow.Author.Tests.{lt-ltb, le-ltb}
+use Rattle.bits.specs.Each.{each, each-at}
 use Rattle.calendar.specs.declared.Clock.{Clock}
 use Rattle.calendar.specs.Calendar.{decimal, plusOne, carried, stepMonth, flipped, daysIn, nextDay}
 use Rattle.calendar.specs.Meaning.{sumBelow, leapDay, yearLength, monthLength, centOf, yearOf, monthsOver, daysOver, Writes, Valid}
 use Rattle.calendar.specs.Meaning.Sums.{sum-suc, sum-grows}
 use Rattle.calendar.specs.Meaning.Fields.{Spells, spelled, written, by-cent, GoesOn, step-writes}
-use Rattle.calendar.specs.Meaning.Months.{every, every-at, last-date}
+use Rattle.calendar.specs.Meaning.Months.{last-date}
 
 -- ---- years and centuries
 
@@ -29,11 +30,11 @@ century-sum = refl
 -- no month is empty
 month-long : (year : ℕ) {month : ℕ} → month < 12 → 0 < monthLength year month
 unfolding monthLength leapDay
-month-long year {month} h = ltb-true 0 (monthLength year month) (every-at (λ m. ltb 0 (monthLength year m)) 12 (go (eqb (year % 4) 0) refl) month h)
+month-long year {month} h = ltb→lt 0 (monthLength year month) (each-at 12 (λ m. ltb 0 (monthLength year m)) (go (eqb (year % 4) 0) refl) month h)
   where
-    go : (leap : Bool) → eqb (year % 4) 0 ≡ leap → every (λ m. ltb 0 (monthLength year m)) 12 ≡ true
-    go true e = rw e
-    go false e = rw e
+    go : (leap : Bool) → eqb (year % 4) 0 ≡ leap → T (each 12 (λ m. ltb 0 (monthLength year m)))
+    go true e = rw e tt
+    go false e = rw e tt
 
 -- what is over of the year falls short of it, and so of the century
 pub year-lt : {c : Clock} → Valid c → sumBelow (monthLength (yearOf c)) (monthsOver c) + (decimal (c .date) - 1) < yearLength (yearOf c)
