@@ -48,11 +48,11 @@ HEARD = UNHEARD + "        self.reset()\n"
 STEP_HOURS = "STEP_HOURS = {0: step_table(HOURS_24), FORM: step_table(HOURS_12)}\n"
 
 
-def hour_fault(name, hours, step):
-    """The bytes of the twelve-hour form for which `hours` is true step so: the byte after the step, and the carry."""
+def hour_fault(name, which, step):
+    """The bytes of the twelve-hour form for which this is true step so: the byte after the step, and the carry."""
     return Fault(name, "tag", STEP_HOURS, STEP_HOURS + f"""\
 for hour in range(FORM, 128):
-    if {hours}:
+    if {which}:
         STEP_HOURS[FORM][hour] = {step}
 """)
 

@@ -21,7 +21,8 @@ def date_of(fields):
 
 
 def hour_of(byte):
-    """Of the day. In the twelve-hour form, bit 6 one, bit 5 is PM and the rest 12 or 1 to 11; else a ValueError."""
+    """The hour of the day. With bit 6 one, bit 5 is PM and the rest 12 or 1 to 11, else a ValueError; without it the two
+    digits, 24 and above too, which a date refuses."""
     if not byte & 0x40:
         return decimal(byte)
     hour = decimal(byte & 0x9F)  # bit 7 stays, and makes it no hour

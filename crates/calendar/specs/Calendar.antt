@@ -48,6 +48,7 @@ plusOne byte = if eqb (byte % 16) 9 then byte + 7 else byte + 1
 abbrev pub counting : ℕ → ℕ → Order
 counting lowest last = record { lowest = lowest; last = last; isValue = isValid lowest last; after = plusOne }
 
+-- its step
 unfoldable pub stepField : ℕ → ℕ → ℕ → Stepped
 stepField lowest last byte = stepAlong (counting lowest last) byte
 
@@ -70,11 +71,11 @@ abbrev pub twelveHours : Order
 twelveHours =
     record { lowest = 0x52; last = 0x71; isValue = λ byte. isValid 0x41 0x52 byte || isValid 0x61 0x72 byte; after = hourAfter }
 
--- the hours' values in the form of the byte: "An hour not valid in its form returns to 00 or to 12 AM and carries, and the form bit
--- stays"
+-- the hours' values, in the form of the byte
 abbrev pub hoursIn : ℕ → Order
 hoursIn byte = if bitOf byte 6 then twelveHours else counting 0x00 0x23
 
+-- "An hour not valid in its form returns to 00 or to 12 AM and carries, and the form bit stays"
 unfoldable pub stepHours : ℕ → Stepped
 stepHours byte = stepAlong (hoursIn byte) byte
 

@@ -89,7 +89,7 @@ fn step_hours(byte: u8) -> Stepped
 fn step_twelve(byte: u8) -> Stepped
     ensures { λ r. ⌜ r ≡ stepAlong twelveHours byte ⌝ }
 {
-    if byte == 0x71 || !is_twelve(byte) {
+    if byte == 0x71 || !valid_twelve(byte) {
         return returned(0x52);
     }
     match byte {
@@ -102,7 +102,7 @@ fn step_twelve(byte: u8) -> Stepped
 }
 
 // From 1 AM to 12 AM, or from 1 PM to 12 PM, as their bytes stand.
-fn is_twelve(byte: u8) -> bool
+fn valid_twelve(byte: u8) -> bool
     ensures { λ r. ⌜ r ≡ twelveHours .isValue byte ⌝ }
 {
     valid(0x41, 0x52, byte) || valid(0x61, 0x72, byte)

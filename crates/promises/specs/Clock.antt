@@ -1,7 +1,7 @@
 -- The clock as a person reads it, by the bytes of the image and over ticks (document 01, "A mission"; request #104): while EOSC is 1 a
 -- valid clock shows a second more at each tick, in the form that it was set to; two tags that show one moment, in one form or in both,
--- go on showing one moment; and so does the stamp of a mission. What a clock shows is said by `calendar` `Meaning`, which does not look
--- at the step. Assumes nothing.
+-- go on showing one moment; and the stamp of a mission shows the moment of the tick that set it, in the clock's form. What a clock shows
+-- is said by `calendar` `Meaning`, which does not look at the step. Assumes nothing.
 use mathlib.Core.Path.{_≡_, refl, sym, _∙_}
 use mathlib.Core.Bool.{true}
 use mathlib.Core.List.{List, [], _∷_, map}
@@ -14,10 +14,8 @@ use Rattle.calendar.specs.Meaning.{formOf, century, moment, Valid}
 use Rattle.calendar.specs.Meaning.Laws.{valid-after, form-after, moment-after}
 use Rattle.calendar.specs.declared.Clock.{Clock}
 use Rattle.image.specs.Fields.{flagAt}
-use Rattle.image.specs.Tables.{registerAt, named}
-use Rattle.conversion.specs.Clock.{clockOf}
 use Rattle.mission.specs.Mission.Frames.{leaves-ticked}
-use Rattle.promises.specs.Demand2.AtStart.{bitAt, clockAt}
+use Rattle.promises.specs.Demand2.AtStart.{bitAt, clockAt, clock-same}
 use Rattle.promises.specs.Demand2.Course.{tick-leaves}
 use Rattle.promises.specs.History.{Settings, Conversion, stamp}
 use Rattle.promises.specs.History as history
@@ -51,10 +49,6 @@ ticked s readings = run s (map Event.tick readings) .state
 
 -- ---- why it holds
 
-clock-same : (image : List ℕ) → clockAt image ≡ clockOf image
-unfolding clockAt clockOf registerAt named
-clock-same image = refl
-
 flag-same : (image : List ℕ) → flagAt image 0x0212 0 ≡ bitAt image 0x0212 0
 unfolding flagAt
 flag-same image = refl
@@ -86,14 +80,14 @@ pub clock-shows : {s : State} → Timed s → (readings : List ℕ) → Readings
     Later (length readings) (clockAt (s .image)) (clockAt (ticked s readings .image))
 clock-shows {s} r readings small = rw (clock-ticks s (r .reached) (r .eosc) readings small) (later (length readings) (r .valid))
 
--- two tags get ticks at the same places, with readings that may differ
+-- two tags get as many ticks, with readings that may differ
 pub clocks-agree : {s t : State} → Timed s → Timed t → moment (clockAt (s .image)) ≡ moment (clockAt (t .image)) →
     (p q : List ℕ) → Readings p → Readings q → length p ≡ length q →
     moment (clockAt (ticked s p .image)) ≡ moment (clockAt (ticked t q .image))
 clocks-agree r u same p q small low e = rw (clock-shows r p small .moves, clock-shows u q low .moves, same, e)
 
--- "The stamp copies the byte as it is": of a mission that was started with a valid clock, the stamp, which the first of these entries
--- has set, shows as many seconds more as its tick's number, in the clock's form
+-- "The stamp copies the byte as it is": of a mission that was started with a valid clock, the stamp, which entry 0 has set, with SUTA
+-- entry 1, shows as many seconds more as its tick's number, in the clock's form
 pub stamp-shows : (settings : Settings) (first : Conversion) (entries rest : List Conversion) → drop (digit (settings .suta)) entries ≡ first ∷ rest →
     Valid (settings .clock) → Later (first .tick) (settings .clock) (stamp settings entries)
 unfolding stamp history.clockAt

@@ -1,5 +1,6 @@
 -- The (P) points of document 01, "Points on both sides of a line": one table of what the definitions give and what the document says,
--- one test that is computed over it, one statement. Beside it a table of other bytes that follow from its sentences. Assumes nothing.
+-- one test that is computed over it, one statement. Beside it a table of other bytes that follow from its sentences, and of the
+-- ruling on request #104. Assumes nothing.
 use mathlib.Core.Bool.{Bool, true, false, _&&_, xor}
 use mathlib.Core.List.{List, [], _∷_, _++_, flatMap}
 use Prim.Native.Nat.{ℕ, suc}
@@ -188,11 +189,13 @@ right [] = true
 right (p ∷ ps) = same (p .given) (p .said) && right ps
 
 pub points : T (right table)
-unfolding table taps crcBit crcBits mask8 crc8Of bitOf bitsOf xor temperatureOf nextSecond nextDay carried stepHours stepMonth stepAlong hourAfter stepField isValid plusOne flipped isLeap daysIn decimal isHigh isLow Mission.periodOf Entries.periodOf period
+unfolding table taps crcBit crcBits mask8 crc8Of bitOf bitsOf xor temperatureOf
+    nextSecond nextDay carried stepHours stepMonth stepAlong hourAfter stepField isValid plusOne flipped isLeap daysIn decimal isHigh isLow Mission.periodOf Entries.periodOf period
     run slotOf stageSlot onLine asks stageAsks heardBit heardWhole addressHeard stored commandStage afterData shiftIn flatMap
 points = tt
 
 pub further-points : T (right further)
-unfolding further taps crcBit crcBits crcByte mask16 sentLow sentHigh bitOf bitsOf numberOf xor nextSecond nextDay carried stepHours stepMonth stepAlong hourAfter stepField isValid plusOne flipped isLeap daysIn decimal
+unfolding further taps crcBit crcBits crcByte mask16 sentLow sentHigh bitOf bitsOf numberOf xor
+    nextSecond nextDay carried stepHours stepMonth stepAlong hourAfter stepField isValid plusOne flipped isLeap daysIn decimal
     run slotOf stageSlot onLine asks stageAsks heardBit heardWhole addressHeard stored commandStage afterData shiftIn flatMap firstByte afterCrc sentWhole outgoing sentBit sendAsks
 further-points = tt

@@ -2,28 +2,24 @@
 use mathlib.Core.Bool.{true, false}
 use mathlib.Core.Logic.{inl, inr, ⊎-elim}
 use mathlib.Core.Path.{_≡_, refl, sym, _∙_}
-use Prim.Native.Nat.{ℕ, _+_, _%_, _≤_}
+use Prim.Native.Nat.{ℕ, _+_, _%_}
 use native.Mathlib.Omega.{arith}
 use borrow.Author.Needs.{needs}
 use borrow.Author.Tests.{ne-eqb, not-true, not-false}
 use Rattle.calendar.specs.Calendar.{stepAlong, twelveHours, hourAfter, isValid, plusOne}
-use Rattle.calendar.specs.Calendar.Laws.{along-last, along-invalid, along-on, twelve-between}
+use Rattle.calendar.specs.Calendar.Laws.{along-last, along-invalid, along-on, twelve-between, twelve-le}
 use Rattle.calendar.proofs.step_twelve.Statement.{statement}
 use Rattle.calendar.proofs.step_twelve.Tie as tie
 
 -- past the test it is an hour
 hour : (c : tie.Else2) → twelveHours .isValue (c .before .before .before .args .byte) ≡ true
-hour c = sym (c .before .is-twelve .ensures) ∙ not-false _ (c .if2 .left)
-
--- whose next one is a byte
-small : (byte : ℕ) → twelveHours .isValue byte ≡ true → byte ≤ 0x72
-small byte v = ⊎-elim (λ b. omega (arith, b)) (λ b. b .below) (twelve-between byte v)
+hour c = sym (c .before .valid-twelve .ensures) ∙ not-false _ (c .if2 .left)
 
 add-gone-on : tie.Need-add-gone-on
-add-gone-on c = omega (arith, small _ (hour (c .before)))
+add-gone-on c = omega (arith, twelve-le _ (hour (c .before)))
 
 add-gone-on-2 : tie.Need-add-gone-on-2
-add-gone-on-2 c = omega (arith, small _ (hour (c .before)))
+add-gone-on-2 c = omega (arith, twelve-le _ (hour (c .before)))
 
 returns : tie.Need-returns
 returns c =
@@ -53,7 +49,8 @@ unfolding stepAlong hourAfter isValid plusOne
 returns-5 c = c .gone-on4 .ensures ∙ sym (⊎-elim (nine _ 0x49 refl) (nine _ 0x69 refl) (c .before .match .keys4))
 
 -- what holds of the others
-other : (byte : ℕ) → twelveHours .isValue byte ≡ true → ¬ (byte ≡ twelveHours .last) → ¬ (byte ≡ 0x52) → ¬ (byte ≡ 0x51) → ¬ (byte ≡ 0x72) → ¬ (byte ≡ 0x49) → ¬ (byte ≡ 0x69) →
+other : (byte : ℕ) → twelveHours .isValue byte ≡ true → ¬ (byte ≡ twelveHours .last) →
+    ¬ (byte ≡ 0x52) → ¬ (byte ≡ 0x51) → ¬ (byte ≡ 0x72) → ¬ (byte ≡ 0x49) → ¬ (byte ≡ 0x69) →
     stepAlong twelveHours byte ≡ record { byte = byte + 1; carry = false }
 unfolding hourAfter plusOne
 other byte v l a b d m e =

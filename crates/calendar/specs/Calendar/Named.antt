@@ -8,8 +8,7 @@ use Rattle.bits.specs.Choose.{either}
 use Rattle.calendar.specs.declared.Clock.{Clock}
 use Rattle.calendar.specs.declared.Stepped.{Stepped}
 use Rattle.calendar.specs.Calendar.{stepField, carried, stepHours, stepMonth, flipped, isLeap, daysIn, nextDay, nextSecond}
-use Rattle.calendar.specs.Calendar.Laws.{step-le}
-use Rattle.calendar.specs.Meaning.Hours.{step-below}
+use Rattle.calendar.specs.Calendar.Laws.{step-le, hours-lt}
 
 -- CENT and bits 4-0
 record MonthNamed (byte : ℕ) : Type 0 where
@@ -79,7 +78,7 @@ named-next c n =
     record {
       seconds = omega arith;
       minutes = carried-keeps (λ b. b < 0x80) seconds (stepField 0x00 0x59) (c .minutes) (n .minutes) (omega arith);
-      hours = carried-keeps (λ b. b < 0x80) minutes stepHours (c .hours) (n .hours) (step-below (c .hours));
+      hours = carried-keeps (λ b. b < 0x80) minutes stepHours (c .hours) (n .hours) (hours-lt (c .hours));
       date = n .date;
       month = n .month;
       cent = n .cent;

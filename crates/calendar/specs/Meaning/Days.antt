@@ -13,7 +13,7 @@ use Rattle.calendar.specs.declared.Clock.{Clock}
 use Rattle.calendar.specs.Calendar.{decimal, plusOne, carried, stepMonth, flipped, daysIn, nextDay}
 use Rattle.calendar.specs.Meaning.{sumBelow, leapDay, yearLength, monthLength, centOf, yearOf, monthsOver, daysOver, Writes, Valid}
 use Rattle.calendar.specs.Meaning.Sums.{sum-suc, sum-grows}
-use Rattle.calendar.specs.Meaning.Fields.{Spells, spelled, written, by-cent, GoesOn, step-writes}
+use Rattle.calendar.specs.Meaning.Fields.{Spells, spelled, written, by-bit, GoesOn, step-writes}
 use Rattle.calendar.specs.Meaning.Months.{last-date}
 
 -- ---- years and centuries
@@ -75,7 +75,7 @@ to-next-year cent year =
 
 to-next-century : (cent : ℕ) → cent ≤ 1 → daysTo 1 1 (1 - cent) 0 ≡ (daysTo (monthLength 99 11) 12 cent 99 + 1) % 73050
 unfolding sumBelow yearLength monthLength leapDay
-to-next-century = by-cent (λ cent. daysTo 1 1 (1 - cent) 0 ≡ (daysTo (monthLength 99 11) 12 cent 99 + 1) % 73050) refl refl
+to-next-century = by-bit (λ cent. daysTo 1 1 (1 - cent) 0 ≡ (daysTo (monthLength 99 11) 12 cent 99 + 1) % 73050) refl refl
 
 -- ---- one day on
 
@@ -119,7 +119,7 @@ cent-above cent h = omega arith
 cent-flipped : {month : ℕ} (cent : ℕ) → month < 128 → cent ≤ 1 → flipped (month + 128 * cent) ≡ month + 128 * (1 - cent)
 unfolding flipped
 cent-flipped {month} cent h =
-    by-cent (λ cent. flipped (month + 128 * cent) ≡ month + 128 * (1 - cent))
+    by-bit (λ cent. flipped (month + 128 * cent) ≡ month + 128 * (1 - cent))
     (rw (add-zero month, lt-ltb month 128 h)) (rw (le-ltb (month + 128) 128 (omega arith)) (omega arith))
     cent
 

@@ -56,11 +56,11 @@ pub written : {low high byte : ℕ} →
 unfolding decimal
 written t o a b = record { digits = record { tens = lit≤ t; ones = lit≤ o }; above = lit≤ a; below = lit≤ b }
 
--- CENT is 0 or 1
-pub by-cent : (P : ℕ → Type 0) → P 0 → P 1 → (cent : ℕ) → cent ≤ 1 → P cent
-by-cent P p q zero h = p
-by-cent P p q (suc zero) h = q
-by-cent P p q (suc (suc cent)) h = absurd (not-suc-le-zero (le-of-suc-le-suc h))
+-- a bit is 0 or 1
+pub by-bit : (P : ℕ → Type 0) → P 0 → P 1 → (bit : ℕ) → bit ≤ 1 → P bit
+by-bit P p q zero h = p
+by-bit P p q (suc zero) h = q
+by-bit P p q (suc (suc bit)) h = absurd (not-suc-le-zero (le-of-suc-le-suc h))
 
 -- ---- the step of a field that writes a number from low to high
 

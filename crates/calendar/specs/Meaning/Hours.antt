@@ -20,7 +20,7 @@ use Rattle.calendar.specs.declared.Stepped.{Stepped}
 use Rattle.calendar.specs.Calendar.{decimal, isValid, plusOne, stepAlong, counting, hourAfter, twelveHours, hoursIn, stepHours}
 use Rattle.calendar.specs.Calendar.Laws.{Between, valid-between, between-valid, along-invalid, twelve-between}
 use Rattle.calendar.specs.Meaning.{formOf, hourOf, Writes, WritesHour}
-use Rattle.calendar.specs.Meaning.Fields.{spelled, writes-between, by-cent}
+use Rattle.calendar.specs.Meaning.Fields.{spelled, writes-between, by-bit}
 
 -- ---- the table
 
@@ -46,14 +46,14 @@ day-form : {hours : ℕ} → Writes 0 23 hours → formOf hours ≡ 0
 unfolding formOf decimal
 day-form w = omega (arith, w)
 
-half-form : (hours : ℕ) → hours / 64 ≡ 1 → formOf hours ≡ 1
+twelve-form : (hours : ℕ) → hours / 64 ≡ 1 → formOf hours ≡ 1
 unfolding formOf
-half-form hours e = omega arith
+twelve-form hours e = omega arith
 
 -- ---- an hour that is valid in its form, by the definition's test
 
-half-valid : (hours : ℕ) → hours / 64 ≡ 1 → Writes 1 12 (hours % 32) → twelveHours .isValue hours ≡ true
-half-valid hours e w = dite (ℕ-discrete (hours / 32 % 2) 0) (λ am. rw (between-valid (morning am))) (λ pm. rw (between-valid (evening pm), or-true (isValid 0x41 0x52 hours)))
+twelve-valid : (hours : ℕ) → hours / 64 ≡ 1 → Writes 1 12 (hours % 32) → twelveHours .isValue hours ≡ true
+twelve-valid hours e w = dite (ℕ-discrete (hours / 32 % 2) 0) (λ am. rw (between-valid (morning am))) (λ pm. rw (between-valid (evening pm), or-true (isValid 0x41 0x52 hours)))
   where
     twelve : Between 0x01 0x12 (hours % 32)
     twelve = writes-between {lowest = 0x01} {last = 0x12} (spelled tt tt tt) (spelled tt tt tt) w
@@ -66,11 +66,11 @@ half-valid hours e w = dite (ℕ-discrete (hours / 32 % 2) 0) (λ am. rw (betwee
 
 hour-valid : {hours : ℕ} → WritesHour hours → hoursIn hours .isValue hours ≡ true
 hour-valid {hours} (inl w) = rw (bit-form hours, day-form w) (between-valid (writes-between {lowest = 0x00} {last = 0x23} (spelled tt tt tt) (spelled tt tt tt) w))
-hour-valid {hours} (inr (e, w)) = rw (bit-form hours, half-form hours e) (half-valid hours e w)
+hour-valid {hours} (inr (e, w)) = rw (bit-form hours, twelve-form hours e) (twelve-valid hours e w)
 
-valid-half : (hours : ℕ) → twelveHours .isValue hours ≡ true → WritesHour hours
+valid-twelve : (hours : ℕ) → twelveHours .isValue hours ≡ true → WritesHour hours
 unfolding decimal
-valid-half hours e = ⊎-elim (λ b. inr (omega (arith, b), omega (arith, b))) (λ b. inr (omega (arith, b), omega (arith, b))) (twelve-between hours e)
+valid-twelve hours e = ⊎-elim (λ b. inr (omega (arith, b), omega (arith, b))) (λ b. inr (omega (arith, b), omega (arith, b))) (twelve-between hours e)
 
 valid-day : {hours : ℕ} → isValid 0x00 0x23 hours ≡ true → WritesHour hours
 unfolding decimal
@@ -80,7 +80,7 @@ valid-hour : {hours : ℕ} → hoursIn hours .isValue hours ≡ true → WritesH
 valid-hour {hours} = go (bitOf hours 6)
   where
     go : (twelve : Bool) → (if twelve then twelveHours else counting 0x00 0x23) .isValue hours ≡ true → WritesHour hours
-    go true e = valid-half hours e
+    go true e = valid-twelve hours e
     go false e = valid-day e
 
 -- ---- the table's rules
@@ -119,15 +119,15 @@ pub form-le : (hours : ℕ) → formOf hours ≤ 1
 unfolding formOf
 form-le hours = omega arith
 
-below : {hours : ℕ} → WritesHour hours → hours < 128
+small : {hours : ℕ} → WritesHour hours → hours < 128
 unfolding decimal
-below (inl w) = omega (arith, w)
-below (inr (e, w)) = omega arith
+small (inl w) = omega (arith, w)
+small (inr (e, w)) = omega arith
 
 module _ {hours : ℕ} (w : WritesHour hours) where
   at-place : T (eqb (hourByte (formOf hours) (hourOf hours)) hours && ltb (hourOf hours) 24)
   unfolding place
-  at-place = rw (hour-valid w) at (each-at 128 place placed hours (below w))
+  at-place = rw (hour-valid w) at (each-at 128 place placed hours (small w))
 
   pub hour-lt : hourOf hours < 24
   hour-lt = ltb→lt _ _ (and-r (eqb (hourByte (formOf hours) (hourOf hours)) hours) (ltb (hourOf hours) 24) at-place)
@@ -188,8 +188,12 @@ hour-on {hours} w =
     round : (hour : ℕ) → hour < 24 → hour + 1 ≡ (hour + 1) % 24 + 24 * digit (eqb hour 23)
     round hour h = dite (ℕ-discrete hour 23) (λ e. rw e) (λ n. rw (ne-eqb hour 23 n) (omega (arith, n)))
 
--- "An hour not valid in its form returns to 00 or to 12 AM and carries": to hour 0 of its form
-pub hour-invalid : (hours : ℕ) → ¬ WritesHour hours → stepHours hours ≡ record { byte = hourByte (formOf hours) 0; carry = true }
+-- to hour 0 of its form, and the day ends
+abbrev pub Returns : ℕ → Type 0
+Returns hours = stepHours hours ≡ record { byte = hourByte (formOf hours) 0; carry = true }
+
+-- "An hour not valid in its form returns to 00 or to 12 AM and carries"
+pub hour-invalid : (hours : ℕ) → ¬ WritesHour hours → Returns hours
 unfolding stepHours
 hour-invalid hours n = along-invalid (hoursIn hours) hours (not-valid (hoursIn hours .isValue hours) refl) ∙ rw (bit-form hours) (lowest (formOf hours) (form-le hours))
   where
@@ -201,19 +205,16 @@ hour-invalid hours n = along-invalid (hoursIn hours) hours (not-valid (hoursIn h
     Lowest form = _≡_ {A = Stepped} (record { byte = (if eqb form 1 then twelveHours else counting 0x00 0x23) .lowest; carry = true }) (record { byte = hourByte form 0; carry = true })
 
     lowest : (form : ℕ) → form ≤ 1 → Lowest form
-    lowest = by-cent Lowest refl refl
+    lowest = by-bit Lowest refl refl
 
 -- one or the other, whatever the byte
-hour-cases : (hours : ℕ) → HourOn hours (stepHours hours) ⊎ (stepHours hours ≡ record { byte = hourByte (formOf hours) 0; carry = true })
+hour-cases : (hours : ℕ) → HourOn hours (stepHours hours) ⊎ Returns hours
 hour-cases hours = go (hoursIn hours .isValue hours) refl
   where
-    go : (valid : Bool) → hoursIn hours .isValue hours ≡ valid → HourOn hours (stepHours hours) ⊎ (stepHours hours ≡ record { byte = hourByte (formOf hours) 0; carry = true })
+    go : (valid : Bool) → hoursIn hours .isValue hours ≡ valid → HourOn hours (stepHours hours) ⊎ Returns hours
     go true e = inl (hour-on (valid-hour e))
     go false e = inr (hour-invalid hours (λ w. false≢true (sym e ∙ hour-valid w)))
 
 -- "and the form bit stays"
 pub form-stays : (hours : ℕ) → formOf (stepHours hours .byte) ≡ formOf hours
 form-stays hours = ⊎-elim (λ h. h .form) (λ e. rw e (shown (form-le hours) (lit< tt) .formed)) (hour-cases hours)
-
-pub step-below : (hours : ℕ) → stepHours hours .byte < 0x80
-step-below hours = ⊎-elim (λ h. below (h .writes)) (λ e. rw e (below (shown (form-le hours) (lit< tt) .writes))) (hour-cases hours)

@@ -1,6 +1,7 @@
 -- The clock's step gives the next time that there is: a valid clock stays valid in its form, its seconds go on by one, and the
 -- seconds name the clock of that form. Assumes nothing.
 use mathlib.Core.Path.{_≡_, refl, sym, ap, _∙_}
+use mathlib.Core.Bool.{true}
 use mathlib.Core.Logic.{_↔_}
 use Prim.Native.Nat.{ℕ, zero, suc, _+_, _-_, _*_, _%_, _≤_, _<_}
 use native.Mathlib.Omega.{arith}
@@ -9,10 +10,10 @@ use Rattle.bits.specs.Bits.{bitOf}
 use Rattle.bits.specs.Choose.{choice}
 use Rattle.calendar.specs.declared.Clock.{Clock}
 use Rattle.calendar.specs.declared.Stepped.{Stepped}
-use Rattle.calendar.specs.Calendar.{decimal, isValid, plusOne, stepAlong, hourAfter, stepField, carried, stepHours, stepMonth, isLeap, daysIn, flipped, nextDay, nextSecond, clockAfter}
-use Rattle.calendar.specs.Calendar.Laws.{step-last, after-zero, after-suc}
+use Rattle.calendar.specs.Calendar.{decimal, isValid, plusOne, stepAlong, counting, hourAfter, stepField, carried, stepHours, stepMonth, isLeap, daysIn, flipped, nextDay, nextSecond, clockAfter}
+use Rattle.calendar.specs.Calendar.Laws.{along-carries, after-zero, after-suc}
 use Rattle.calendar.specs.Meaning.{sumBelow, leapDay, yearLength, monthLength, century, centOf, yearOf, monthsOver, daysOver, formOf, hourOf, secondsOf, moment, WritesHour, Valid}
-use Rattle.calendar.specs.Meaning.Fields.{written, by-cent}
+use Rattle.calendar.specs.Meaning.Fields.{written, by-bit}
 use Rattle.calendar.specs.Meaning.Hours.{hourByte, form-le, hour-lt, shown, hour-invalid, form-stays}
 use Rattle.calendar.specs.Meaning.Days.{days-lt, month-below, cent-above}
 use Rattle.calendar.specs.Meaning.Seconds.{second-on}
@@ -37,12 +38,13 @@ form-next c =
     let stays : formOf (hours .byte) ≡ formOf (c .hours) = choice (λ (s : Stepped). formOf (s .byte) ≡ formOf (c .hours)) (minutes .carry) (form-stays (c .hours)) refl in
     choice (λ (d : Clock). formOf (d .hours) ≡ formOf (c .hours)) (hours .carry) stays stays
 
--- "An hour not valid in its form returns to 00 or to 12 AM and carries", to hour 0 of its form, whatever the day's three bytes are
-pub next-invalid : (hours date month year : ℕ) → ¬ WritesHour hours →
-    nextSecond (record { seconds = 0x59; minutes = 0x59; hours = hours; date = date; month = month; year = year })
-    ≡ nextDay (record { seconds = 0x00; minutes = 0x00; hours = hourByte (formOf hours) 0; date = date; month = month; year = year })
-unfolding nextSecond carried
-next-invalid hours date month year n = rw (step-last 0x00 0x59, hour-invalid hours n)
+-- "An hour not valid in its form returns to 00 or to 12 AM and carries", to hour 0 of its form, whatever the six bytes are, where
+-- seconds and minutes carry
+pub next-invalid : (c : Clock) → stepField 0x00 0x59 (c .seconds) .carry ≡ true → stepField 0x00 0x59 (c .minutes) .carry ≡ true → ¬ WritesHour (c .hours) →
+    nextSecond c ≡ nextDay (record { seconds = 0x00; minutes = 0x00; hours = hourByte (formOf (c .hours)) 0; date = c .date; month = c .month; year = c .year })
+unfolding nextSecond carried stepField
+next-invalid c s m n =
+    rw (along-carries (counting 0x00 0x59) (c .seconds) s, along-carries (counting 0x00 0x59) (c .minutes) m, hour-invalid (c .hours) n)
 
 pub seconds-lt : {c : Clock} → Valid c → secondsOf c < century
 unfolding secondsOf
@@ -63,7 +65,7 @@ lastSecond form cent = record { seconds = 0x59; minutes = 0x59; hours = hourByte
 
 -- in both forms, and in both centuries
 by-both : (P : ℕ → ℕ → Type 0) → P 0 0 → P 0 1 → P 1 0 → P 1 1 → (form cent : ℕ) → form ≤ 1 → cent ≤ 1 → P form cent
-by-both P p q r s form cent f h = by-cent (λ form. P form cent) (by-cent (P 0) p q cent h) (by-cent (P 1) r s cent h) form f
+by-both P p q r s form cent f h = by-bit (λ form. P form cent) (by-bit (P 0) p q cent h) (by-bit (P 1) r s cent h) form f
 
 -- "the year's carry flips CENT"
 pub last-next : (form cent : ℕ) → form ≤ 1 → cent ≤ 1 → nextSecond (lastSecond form cent) ≡ firstSecond form (1 - cent)

@@ -68,8 +68,12 @@ module _ (c : Clock) (v : Valid c) where
   hour-next s m =
       let h = hour-on (v .hours) in
       either (SecondOn c) (stepHours (c .hours) .carry)
-      (λ t. let counts = rw t at (h .counts) in midnight-on (h .writes) (omega (arith, counts, hour-lt (v .hours))) s m (omega (arith, counts, hour-lt (v .hours))))
-      (λ t. let counts = rw t at (h .counts) in time-on 0x00 0x00 (stepHours (c .hours) .byte) (written tt tt tt tt) (written tt tt tt tt) (h .writes) (omega (arith, none, s, m, counts, moment-at c)))
+      (λ t.
+      let counts = rw t at (h .counts) in
+      midnight-on (h .writes) (omega (arith, counts, hour-lt (v .hours))) s m (omega (arith, counts, hour-lt (v .hours))))
+      (λ t.
+      let counts = rw t at (h .counts) in
+      time-on 0x00 0x00 (stepHours (c .hours) .byte) (written tt tt tt tt) (written tt tt tt tt) (h .writes) (omega (arith, none, s, m, counts, moment-at c)))
 
   pub second-on : SecondOn c (nextSecond c)
   unfolding nextSecond carried

@@ -79,9 +79,13 @@ module _ (image : List ℕ) where
   unfolding settingsOf flagAt
   suta-of = refl
 
+  pub clock-same : clockAt image ≡ clockOf image
+  unfolding clockAt clockOf registerAt named
+  clock-same = refl
+
   pub clock-of : settingsOf image .clock ≡ clockOf image
-  unfolding settingsOf clockAt clockOf registerAt named
-  clock-of = refl
+  unfolding settingsOf
+  clock-of = clock-same
 
   period-of : History.period (settingsOf image) ≡ Mission.period image
   unfolding settingsOf flagAt History.period Mission.period Mission.periodOf

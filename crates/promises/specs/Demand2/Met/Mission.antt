@@ -49,7 +49,7 @@ cleaned-owned : Owned number clean cleaned
 cleaned-owned = cleared-owned registered-owned written-off
 
 -- before the last slot of the Start
-abbrev pub asked : State
+abbrev asked : State
 asked = told cleaned (startSlots 0)
 
 start-asked : (asked .image ≡ cleaned .image) × (deedAt asked (Event.slot true) ≡ Deed.Start)
@@ -58,17 +58,17 @@ start-asked =
     start-comes (reached-sound (cleaned-owned .reached)) (Way.skip false) 0 (omega arith)
     (λ checked. absurd (let no : _≡_ {A = ℕ} 0x00 0xAA = sym (rw (cleaned-owned .holds) clean-open) ∙ checked in omega arith))
 
-pub asked-owned : Owned number clean asked
+asked-owned : Owned number clean asked
 asked-owned = told-owned (startSlots 0) cleaned-owned (start-asked .0 ∙ cleaned-owned .holds)
 
-pub asked-starts : Starts asked (Event.slot true)
+asked-starts : Starts asked (Event.slot true)
 asked-starts =
     let whole : Whole written = rw (registered-owned .holds) at (reached-solid (registered-owned .reached) .whole) in
     record { command = start-asked .1; may = rw (asked-owned .holds) (clean-may whole) }
 
 -- ---- the mission
 
-abbrev pub start : State
+abbrev start : State
 start = after asked (Event.slot true)
 
 abbrev end : State

@@ -1,13 +1,13 @@
 -- The image of a new tag after a Copy of the page and a Clear: what a Start finds, with the mission's settings in numbers. Assumes
 -- nothing.
-use mathlib.Core.Path.{_≡_, _∙_}
+use mathlib.Core.Path.{_≡_, refl, _∙_}
 use mathlib.Core.Bool.{true, false, not}
 use mathlib.Core.List.{List, [], _∷_}
 use mathlib.Core.Logic.{_≢_}
 use Prim.Native.Nat.{ℕ, _+_, _-_}
 use native.Mathlib.Omega.{arith}
 use lib.Dec.{T, T-not, eqb, ltb, ltb→lt}
-use lib.ListN.{getD}
+use lib.ListN.{length, getD}
 use Rattle.bits.specs.Bits.{bitOf}
 use Rattle.image.specs.Answers.{checked}
 use Rattle.image.specs.Answers.Laws.{checked-kept}
@@ -39,15 +39,19 @@ clean = cleared written
 
 -- ---- the Copy
 
--- each byte of the page, as far as it is writable; BOR stands in 0214h
-written-at : (j : ℕ) → T (ltb j 32) → T (not (eqb j 0x14)) → getD written (0x0200 + j) 0 ≡ blend (getD writable j 0) 0 (getD page j 0)
+-- each byte of a page, as far as it is writable; BOR stands in 0214h
+pub page-at : (bytes : List ℕ) → length bytes ≡ 32 → (j : ℕ) → T (ltb j 32) → T (not (eqb j 0x14)) →
+    getD (storedRun fresh 0x0200 bytes) (0x0200 + j) 0 ≡ blend (getD writable j 0) 0 (getD bytes j 0)
 unfolding storedByte
-written-at j low other =
+page-at bytes long j low other =
     let inside = ltb→lt j 32 low in
     let place : 0x0200 + j - 0x0200 ≡ j = omega arith in
     let apart : 0x0200 + j ≢ 0x0214 = λ e. T-not (eqb j 0x14) other (let same : j ≡ 0x14 = omega arith in rw same tt) in
-    storedRun-at fresh 0x0200 page j inside (omega (arith, length-new 8832))
+    storedRun-at fresh 0x0200 bytes j (rw long inside) (omega (arith, length-new 8832))
     ∙ rw (region-registers (0x0200 + j) (omega arith) (omega arith), place, fresh-at (0x0200 + j) apart)
+
+written-at : (j : ℕ) → T (ltb j 32) → T (not (eqb j 0x14)) → getD written (0x0200 + j) 0 ≡ blend (getD writable j 0) 0 (getD page j 0)
+written-at = page-at page refl
 
 pub written-off : checked written ≡ false
 written-off = checked-kept (keeps-storedRun fresh 0x0200 page) tt ∙ fresh-off
