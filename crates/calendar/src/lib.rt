@@ -162,6 +162,7 @@ fn step(lowest: u8, last: u8, byte: u8) -> Stepped
     }
 }
 
+// A field that returns to its lowest carries.
 fn returned(lowest: u8) -> Stepped
     ensures { λ r. ⌜ r ≡ record { byte = lowest; carry = true } ⌝ }
 {
@@ -171,6 +172,7 @@ fn returned(lowest: u8) -> Stepped
     }
 }
 
+// One that goes on does not.
 fn gone_on(next: u8) -> Stepped
     ensures { λ r. ⌜ r ≡ record { byte = next; carry = false } ⌝ }
 {

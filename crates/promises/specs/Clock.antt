@@ -86,8 +86,8 @@ pub clocks-agree : {s t : State} → Timed s → Timed t → moment (clockAt (s 
     moment (clockAt (ticked s p .image)) ≡ moment (clockAt (ticked t q .image))
 clocks-agree r u same p q small low e = rw (clock-shows r p small .moves, clock-shows u q low .moves, same, e)
 
--- "The stamp copies the byte as it is": of a mission that was started with a valid clock, the stamp, which entry 0 has set, with SUTA
--- entry 1, shows as many seconds more as its tick's number, in the clock's form
+-- of a mission that was started with a valid clock: the stamp that demand 2 lists, which entry 0 has set, with SUTA entry 1, shows as
+-- many seconds more as its tick's number, in the clock's form
 pub stamp-shows : (settings : Settings) (first : Conversion) (entries rest : List Conversion) → drop (digit (settings .suta)) entries ≡ first ∷ rest →
     Valid (settings .clock) → Later (first .tick) (settings .clock) (stamp settings entries)
 unfolding stamp history.clockAt
