@@ -8,6 +8,8 @@ use lib.Dec.{eqb}
 use Rattle.bits.specs.Choose.{if_then_else_}
 use Rattle.bits.specs.Bits.{bitOf, bitsOf}
 pub mod Laws
+pub mod Linear
+pub mod Halves
 
 -- ---- any width and polynomial
 

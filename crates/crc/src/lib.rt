@@ -1,8 +1,11 @@
-// CRC-8 and CRC-16 of the 1-Wire line, low bit first. Each polynomial has a step and a byte's loop of its own: with the
+// CRC-8 and CRC-16 of the 1-Wire line, low bit first. CRC-16 goes by half-bytes, from tables (`halves`). CRC-8 goes bit by bit: with its
 // polynomial a constant in the loop, the compiler makes a table of it. Every function answers any input.
+ghost use mathlib.Core.List.{[], _∷_};
 ghost use mathlib.Core.Path.{_≡_};
 ghost use Rattle.bits.specs.Bits.{bitOf};
 ghost use Rattle.crc.specs.Crc.{crc16Bit, crc16Byte, crc16Run, sentLow, sentHigh, crc8Bit, crc8Byte, crc8Of, goodCrc};
+
+mod halves;
 
 // x^16+x^15+x^2+1 as a register's bits: low bit first, so the term 1 is its top bit, and x^16 is left out.
 const CRC16: u16 = 0xA001;
@@ -14,24 +17,48 @@ const CRC8: u8 = 0x8C;
 pub fn crc16_bit(crc: u16, bit: bool) -> u16
     ensures { λ r. ⌜ r ≡ crc16Bit crc bit ⌝ }
 {
-    crc16_low(crc, bit as u16)
+    if (crc ^ bit as u16) % 2 == 1 {
+        CRC16 ^ (crc / 2)
+    } else {
+        crc / 2
+    }
 }
 
 // The CRC-16 register with one more byte, low bit first.
 pub fn crc16_byte(crc: u16, byte: u8) -> u16
     ensures { λ r. ⌜ r ≡ crc16Byte crc byte ⌝ }
 {
-    let mut r = crc;
-    let mut rest = byte as u16;
-    for i in 0..8u8 {
-        r = crc16_low(r, rest);
-        rest = rest / 2;
-    }
-    r
+    let out = (crc % 256) as u8 ^ byte;
+    halves::after_8(out) ^ halves::after_4(out / 16) ^ (crc / 256)
 }
 
-// The CRC-16 register with all of these bytes, first to last.
+// The CRC-16 register with all of these bytes, first to last: four at a time, and those that are left.
 pub fn crc16_run(crc: u16, bytes: &[u8]) -> u16
+    ensures { λ r. ⌜ r ≡ crc16Run crc (now (bytes .entry)) ⌝ }
+{
+    let fours = bytes.len() / 4;
+    let mut r = crc;
+    for i in 0..fours {
+        let at = 4 * i;
+        r = crc16_four(r, bytes[at], bytes[at + 1], bytes[at + 2], bytes[at + 3]);
+    }
+    crc16_each(r, &bytes[4 * fours..])
+}
+
+// The CRC-16 register with four more bytes. The two that meet the register come last: on them alone the next four wait.
+fn crc16_four(crc: u16, a: u8, b: u8, c: u8, d: u8) -> u16
+    ensures { λ r. ⌜ r ≡ crc16Run crc (a ∷ b ∷ c ∷ d ∷ []) ⌝ }
+{
+    let mut r = halves::after_16(c) ^ halves::after_12(c / 16);
+    r = r ^ (halves::after_8(d) ^ halves::after_4(d / 16));
+    let high = (crc / 256) as u8 ^ b;
+    r = r ^ (halves::after_24(high) ^ halves::after_20(high / 16));
+    let low = (crc % 256) as u8 ^ a;
+    r ^ (halves::after_32(low) ^ halves::after_28(low / 16))
+}
+
+// The CRC-16 register with all of these bytes, one after the other.
+fn crc16_each(crc: u16, bytes: &[u8]) -> u16
     ensures { λ r. ⌜ r ≡ crc16Run crc (now (bytes .entry)) ⌝ }
 {
     let mut r = crc;
@@ -73,17 +100,6 @@ pub fn good_crc(number: u64) -> bool
     ensures { λ r. ⌜ r ≡ goodCrc number ⌝ }
 {
     crc8(number) as u64 == number >> 56
-}
-
-// The CRC-16 register with one more bit, the lowest of a number.
-fn crc16_low(crc: u16, number: u16) -> u16
-    ensures { λ r. ⌜ r ≡ crc16Bit crc (bitOf number 0) ⌝ }
-{
-    if (crc ^ number) % 2 == 1 {
-        CRC16 ^ (crc / 2)
-    } else {
-        crc / 2
-    }
 }
 
 // The CRC-8 register with one more byte, low bit first.

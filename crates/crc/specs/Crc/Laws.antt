@@ -4,11 +4,10 @@ use mathlib.Core.Logic.{_↔_, _⊎_, inl, inr, ⊎-elim}
 use mathlib.Core.Bool.{Bool, true, false, xor}
 use mathlib.Core.List.{List, [], _∷_, _++_}
 use Prim.Native.Nat.{ℕ, zero, suc, _+_, _-_, _*_, _/_, _%_, _^_, _≤_, _<_}
-use native.Mathlib.Nat.{mod-one, mod-lt, div-eq-of-lt, pow-succ', lt-of-lt-of-le, zero-mul, not-suc-le-zero, le-of-suc-le-suc}
+use native.Mathlib.Nat.{mod-one, mod-lt, div-one, div-div-eq-div-mul, div-eq-of-lt, pow-succ', lt-of-lt-of-le, zero-mul, not-suc-le-zero, le-of-suc-le-suc}
 use native.Mathlib.Numerals.{add-one}
 use native.Mathlib.Omega.{arith}
 use borrow.Author.Tests.{eqb-true, eq-eqb}
-use lib.Arith.{lt-one}
 use lib.Bits.{bitXor, xor-lt, xor-shr, xor-mod, xor-zero-r}
 use lib.Dec.{eqb}
 use lib.ListN.{length, getD, drop, drop-of-length-le}
@@ -16,7 +15,7 @@ use lib.Pow.{pow-pos, pow-mono, split, mod-pow-add}
 use lib.Seq.{drop-cons}
 use Rattle.bits.specs.Choose.{if_then_else_, choice}
 use Rattle.bits.specs.Bits.{digit, bitOf, bitsOf}
-use Rattle.bits.specs.Bits.Laws.{digit-bit, bit-low, bits-add, bits-mod}
+use Rattle.bits.specs.Bits.Laws.{digit-bit, digit-one, bit-low, bits-add, bits-mod}
 use Rattle.crc.specs.Crc.{taps, crcBit, crcBits, crcByte, crcRun, bytesOf, mask16, crc16Byte, crc16Run, sentLow, sentHigh, mask8, crc8Of, goodCrc}
 
 -- ---- the register stays below 2 ^ width
@@ -64,20 +63,23 @@ run-join mask r (x ∷ xs) ys = run-join mask (crcByte mask r x) xs ys
 
 -- ---- inputs taken one by one
 
--- the lowest bit of a number, by the parity of the register and the number together
-parity : (a b : ℕ) → a < 2 → b < 2 → eqb (bitXor a b) 1 ≡ xor (eqb a 1) (eqb b 1)
+-- the lowest bit of two numbers added without carry
+digit-sum : (x y : Bool) → bitXor (digit x) (digit y) ≡ digit (xor x y)
 unfolding xor
-parity zero zero ha hb = refl
-parity zero (suc zero) ha hb = refl
-parity (suc zero) zero ha hb = refl
-parity (suc zero) (suc zero) ha hb = refl
-parity (suc (suc a)) b ha hb = absurd (not-suc-le-zero (le-of-suc-le-suc (le-of-suc-le-suc ha)))
-parity zero (suc (suc b)) ha hb = absurd (not-suc-le-zero (le-of-suc-le-suc (le-of-suc-le-suc hb)))
-parity (suc zero) (suc (suc b)) ha hb = absurd (not-suc-le-zero (le-of-suc-le-suc (le-of-suc-le-suc hb)))
+digit-sum true true = refl
+digit-sum true false = refl
+digit-sum false true = refl
+digit-sum false false = refl
 
+pub bit-sum : (a b : ℕ) → bitOf (bitXor a b) 0 ≡ xor (bitOf a 0) (bitOf b 0)
+bit-sum a b =
+    rw (bit-low (bitXor a b), xor-mod a b 1, ← digit-bit a, ← digit-bit b, digit-sum (bitOf a 0) (bitOf b 0))
+    (digit-one (xor (bitOf a 0) (bitOf b 0)))
+
+-- with the lowest bit of a number: by the parity of the register and the number together
 pub bit-parity : (mask r n : ℕ) → crcBit mask r (bitOf n 0) ≡ (if eqb (bitXor r n % 2) 1 then bitXor mask (r / 2) else r / 2)
 unfolding crcBit
-bit-parity mask r n = rw (bit-low r, bit-low n, xor-mod r n 1, parity (r % 2) (n % 2) (omega arith) (omega arith))
+bit-parity mask r n = rw (← bit-sum r n, bit-low (bitXor r n))
 
 -- What the loop over a byte's bits holds at its turn i: the bits that are left in `rest` bring its register to where all of
 -- the byte's bring the first.
@@ -110,6 +112,18 @@ bits-none mask r n (suc k) h = absurd (not-suc-le-zero h)
 pub run-more : (mask r : ℕ) (bytes : List ℕ) (i : ℕ) → i < length bytes → crcRun mask r (drop i bytes) ≡ crcRun mask (crcByte mask r (getD bytes i 0)) (drop (i + 1) bytes)
 unfolding crcRun
 run-more mask r bytes i h = rw (add-one, drop-cons bytes i 0)
+
+-- and four of them
+pub run-four : (mask r : ℕ) (bytes : List ℕ) (i : ℕ) → i + 4 ≤ length bytes → crcRun mask r (drop i bytes)
+    ≡ crcRun mask (crcRun mask r (getD bytes i 0 ∷ getD bytes (i + 1) 0 ∷ getD bytes (i + 2) 0 ∷ getD bytes (i + 3) 0 ∷ [])) (drop (i + 4) bytes)
+unfolding crcRun
+run-four mask r bytes i h = one r i (i + 1) refl (omega arith)
+    ∙ one _ (i + 1) (i + 2) (omega arith) (omega arith)
+    ∙ one _ (i + 2) (i + 3) (omega arith) (omega arith)
+    ∙ one _ (i + 3) (i + 4) (omega arith) (omega arith)
+  where
+    one : (s j k : ℕ) → j + 1 ≡ k → j < length bytes → crcRun mask s (drop j bytes) ≡ crcRun mask (crcByte mask s (getD bytes j 0)) (drop k bytes)
+    one s j k e inside = rw (← e) (run-more mask s bytes j inside)
 
 pub run-none : (mask r : ℕ) (bytes : List ℕ) (i : ℕ) → length bytes ≤ i → crcRun mask r (drop i bytes) ≡ r
 unfolding crcRun
@@ -145,13 +159,14 @@ pub bit-same : (mask r : ℕ) → crcBit mask r (bitOf r 0) ≡ r / 2
 unfolding crcBit
 bit-same mask r = rw (xor-same (bitOf r 0))
 
--- a register's own bits shifted in after it
-pub bits-own : (mask w : ℕ) {r : ℕ} → r < 2 ^ w → crcBits mask r (bitsOf w r) ≡ 0
+-- a register's own low bits shifted in after it: it only moves down
+pub bits-out : (mask k r : ℕ) → crcBits mask r (bitsOf k r) ≡ r / 2 ^ k
 unfolding crcBits bitsOf
-bits-own mask zero h = lt-one h
-bits-own mask (suc w) {r} h =
-    let half : r / 2 < 2 ^ w = omega (arith, rw (pow-succ' 2 w) at h) in
-    rw (crcBits, bit-same mask r) (bits-own mask w half)
+bits-out mask zero r = sym (div-one r)
+bits-out mask (suc k) r = rw (crcBits, bit-same mask r, bits-out mask k (r / 2), div-div-eq-div-mul, ← pow-succ')
+
+pub bits-own : (mask w : ℕ) {r : ℕ} → r < 2 ^ w → crcBits mask r (bitsOf w r) ≡ 0
+bits-own mask w {r} h = bits-out mask w r ∙ div-eq-of-lt h
 
 -- bits, and bytes with the CRC's n bytes low byte first
 pub bits-message : (w : ℕ) {mask r : ℕ} → mask < 2 ^ w → r < 2 ^ w → (bs : List Bool) → crcBits mask r (bs ++ bitsOf w (crcBits mask r bs)) ≡ 0
