@@ -26,6 +26,8 @@ for checks in CHECKED UNCHECKED; do
     warnings=$(gcc -O2 -Wall -Wextra -std=c11 "-D$checks" -c -o "$object" plain_lists.c 2>&1)
     check "plain_lists builds without a warning, $checks" "$?$warnings" "0"
 done
+warnings=$(gcc -O2 -Wall -Wextra -std=c11 -c -o "$object" listed.c 2>&1)
+check "listed builds without a warning" "$?$warnings" "0"
 
 # The registration number of document 01, 41 2B C5 FB 00 00 00 with CRC-8 A1.
 number='\101\053\305\373\000\000\000\241'

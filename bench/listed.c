@@ -2,6 +2,7 @@
  * Lists the dump of standard input many times, by the function of listed.rattle, and prints the listing once. On standard error: the
  * least processor time of a listing, in nanoseconds.
  */
+#define _POSIX_C_SOURCE 200809L
 #include "plain.h"
 
 #if __has_include(<time.h>)
