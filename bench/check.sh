@@ -1,5 +1,5 @@
 #!/bin/sh
-# Builds the plain programs without a warning and runs the points of document 01 on those of play and list.
+# Builds the plain programs and listed.c without a warning and runs the points of document 01 on those of play and list.
 # The last line is 'N passed, M failed'.
 cd "$(dirname "$0")" || exit 1
 passed=0

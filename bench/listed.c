@@ -1,6 +1,6 @@
 /*
  * Lists the dump of standard input many times, by the function of listed.rattle, and prints the listing once. On standard error: the
- * least processor time of a listing, in nanoseconds.
+ * processor time of a listing in nanoseconds, the least over the rounds, each of some listings.
  */
 #define _POSIX_C_SOURCE 200809L
 #include "plain.h"

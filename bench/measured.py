@@ -12,7 +12,6 @@ import inputs
 import kit
 
 SHORT, LONG = 20_000, 100_000
-NO_COUNTER = 3
 PLUGIN = pathlib.Path(__file__).resolve().parent / "count_plugin.c"
 
 

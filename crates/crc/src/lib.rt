@@ -45,7 +45,7 @@ pub fn crc16_run(crc: u16, bytes: &[u8]) -> u16
     crc16_each(r, &bytes[4 * fours..])
 }
 
-// The CRC-16 register with four more bytes. The two that meet the register come last: on them alone the next four wait.
+// The CRC-16 register with four more bytes. The two that meet the register come last: they alone wait for the four before.
 fn crc16_four(crc: u16, a: u8, b: u8, c: u8, d: u8) -> u16
     ensures { λ r. ⌜ r ≡ crc16Run crc (a ∷ b ∷ c ∷ d ∷ []) ⌝ }
 {

@@ -16,7 +16,7 @@ use Rattle.crc.specs.Crc.Linear.{afterZeros, zeros-at-once, byte-at-once
 
 -- ---- the tables
 
--- a table after 4, 8 .. 32 zeros, and in it an entry a half-byte
+-- a table for each of 4, 8 .. 32 zeros, and in it an entry for each half-byte
 abbrev pub tables : List (List ℕ)
 tables =
     (0x0000 ∷ 0xCC01 ∷ 0xD801 ∷ 0x1400 ∷ 0xF001 ∷ 0x3C00 ∷ 0x2800 ∷ 0xE401 ∷ 0xA001 ∷ 0x6C00 ∷ 0x7800 ∷ 0xB401 ∷ 0x5000 ∷ 0x9C01 ∷ 0x8801 ∷ 0x4400 ∷ [])
@@ -62,18 +62,14 @@ byte-rule t {byte} h small =
 
 -- ---- the register by the tables, with one byte more and with four
 
--- what falls out of it together with a byte that comes in
-out-lt : {x byte : ℕ} → x < 256 → byte < 256 → bitXor x byte < 256
-out-lt {x} {byte} = xor-lt 8 x byte
-
 pub byte-tabled : (r : ℕ) {byte : ℕ} → byte < 256 → crc16Byte r byte ≡ bitXor (byteTabled 0 (bitXor (r % 256) byte)) (r / 256)
 byte-tabled r small =
-    byte-at-once mask16 r small ∙ ap (λ (x : ℕ). bitXor x (r / 256)) (byte-rule 0 (omega arith) (out-lt (mod-lt r (omega arith)) small))
+    byte-at-once mask16 r small ∙ ap (λ (x : ℕ). bitXor x (r / 256)) (byte-rule 0 (omega arith) (xor-lt 8 _ _ (mod-lt r (omega arith)) small))
 
 pub four-tabled : {r a b c d : ℕ} → r < 2 ^ 16 → a < 256 → b < 256 → c < 256 → d < 256 → crc16Run r (a ∷ b ∷ c ∷ d ∷ [])
     ≡ bitXor (bitXor (bitXor (byteTabled 2 c) (byteTabled 0 d)) (byteTabled 4 (bitXor (r / 256) b))) (byteTabled 6 (bitXor (r % 256) a))
 four-tabled {r} small ha hb hc hd =
-    let low = byte-rule 6 (omega arith) (out-lt (mod-lt r (omega arith)) ha) in
+    let low = byte-rule 6 (omega arith) (xor-lt 8 _ _ (mod-lt r (omega arith)) ha) in
     let high : r / 256 < 256 = omega arith in
     four-at-once mask16 small ha hb hc hd
-    ∙ rw (low, byte-rule 4 (omega arith) (out-lt high hb), byte-rule 2 (omega arith) hc, byte-rule 0 (omega arith) hd)
+    ∙ rw (low, byte-rule 4 (omega arith) (xor-lt 8 _ _ high hb), byte-rule 2 (omega arith) hc, byte-rule 0 (omega arith) hd)

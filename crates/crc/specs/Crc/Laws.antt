@@ -16,7 +16,7 @@ use lib.Seq.{drop-cons}
 use Rattle.bits.specs.Choose.{if_then_else_, choice}
 use Rattle.bits.specs.Bits.{digit, bitOf, bitsOf}
 use Rattle.bits.specs.Bits.Laws.{digit-bit, digit-one, bit-low, bits-add, bits-mod}
-use Rattle.crc.specs.Crc.{taps, crcBit, crcBits, crcByte, crcRun, bytesOf, mask16, crc16Byte, crc16Run, sentLow, sentHigh, mask8, crc8Of, goodCrc}
+use Rattle.crc.specs.Crc.{taps, crcBit, crcBits, crcByte, crcRun, bytesOf, mask16, crc16Run, sentLow, sentHigh, mask8, crc8Of, goodCrc}
 
 -- ---- the register stays below 2 ^ width
 
@@ -63,7 +63,10 @@ run-join mask r (x ∷ xs) ys = run-join mask (crcByte mask r x) xs ys
 
 -- ---- inputs taken one by one
 
--- the lowest bit of two numbers added without carry
+-- numbers with the same lowest bit are both odd or both even
+pub same-low : (a b : ℕ) → bitOf a 0 ≡ bitOf b 0 → a % 2 ≡ b % 2
+same-low a b low = sym (digit-bit a) ∙ ap digit low ∙ digit-bit b
+
 digit-sum : (x y : Bool) → bitXor (digit x) (digit y) ≡ digit (xor x y)
 unfolding xor
 digit-sum true true = refl
@@ -71,6 +74,7 @@ digit-sum true false = refl
 digit-sum false true = refl
 digit-sum false false = refl
 
+-- the lowest bit of two numbers added without carry
 pub bit-sum : (a b : ℕ) → bitOf (bitXor a b) 0 ≡ xor (bitOf a 0) (bitOf b 0)
 bit-sum a b =
     rw (bit-low (bitXor a b), xor-mod a b 1, ← digit-bit a, ← digit-bit b, digit-sum (bitOf a 0) (bitOf b 0))
@@ -211,7 +215,7 @@ module _ (v : ℕ) {mask : ℕ} (fits : mask < 2 ^ suc v) (top : 2 ^ v ≤ mask)
       met : bitOf r 0 ≡ bitOf x 0 → r ≡ x % 2 ^ suc k
       met p =
           let halves : r / 2 ≡ x / 2 % 2 ^ k = sym (bit-same mask r) ∙ ap (crcBit mask r) p ∙ left in
-          let lows : r % 2 ≡ x % 2 = sym (digit-bit r) ∙ ap digit p ∙ digit-bit x in
+          let lows = same-low r x p in
           omega (arith, rw add-one at (mod-pow-add x k 1))
 
   -- k bits, at most the width, that leave 0 were the register
@@ -228,12 +232,6 @@ module _ (v : ℕ) {mask : ℕ} (fits : mask < 2 ^ suc v) (top : 2 ^ v ≤ mask)
 pub mask16-lt : mask16 < 2 ^ 16
 unfolding mask16 taps
 mask16-lt = omega arith
-
-pub crc16-byte-lt : {r : ℕ} (byte : ℕ) → r < 2 ^ 16 → crc16Byte r byte < 2 ^ 16
-crc16-byte-lt = byte-lt 16 mask16-lt
-
-pub crc16-run-lt : {r : ℕ} (bytes : List ℕ) → r < 2 ^ 16 → crc16Run r bytes < 2 ^ 16
-crc16-run-lt = run-lt 16 mask16-lt
 
 -- a message and its two CRC bytes, not inverted
 pub crc16-message : (bytes : List ℕ) → crc16Run 0 (bytes ++ bytesOf 2 (crc16Run 0 bytes)) ≡ 0

@@ -11,10 +11,10 @@ use lib.Bits.{bitXor, xor-zero-l, xor-zero-r, xor-comm, xor-self, xor-shr, xor-m
 use lib.ListN.{length}
 use lib.Pow.{pow-pos}
 use Rattle.bits.specs.Choose.{if_then_else_}
-use Rattle.bits.specs.Bits.{digit, bitOf, bitsOf}
-use Rattle.bits.specs.Bits.Laws.{digit-bit, bits-add, bits-mod}
+use Rattle.bits.specs.Bits.{bitOf, bitsOf}
+use Rattle.bits.specs.Bits.Laws.{bits-add, bits-mod}
 use Rattle.crc.specs.Crc.{crcBit, crcBits, crcByte, crcRun}
-use Rattle.crc.specs.Crc.Laws.{bit-sum, bits-join, bits-out, run-nil, run-cons}
+use Rattle.crc.specs.Crc.Laws.{same-low, bit-sum, bits-join, bits-out, run-nil, run-cons}
 
 -- the register after k zeros
 abbrev pub afterZeros : ℕ → ℕ → ℕ → ℕ
@@ -36,7 +36,7 @@ bool-assoc true true true = refl
 -- two numbers with the same half and the same lowest bit are one
 same-bits : (a b : ℕ) → a / 2 ≡ b / 2 → bitOf a 0 ≡ bitOf b 0 → a ≡ b
 same-bits a b halves low =
-    let odd : a % 2 ≡ b % 2 = sym (digit-bit a) ∙ ap digit low ∙ digit-bit b in
+    let odd = same-low a b low in
     omega arith
 
 pub xor-assoc : (a b c : ℕ) → bitXor (bitXor a b) c ≡ bitXor a (bitXor b c)
@@ -59,21 +59,21 @@ unfolding xor
 xor-false true = refl
 xor-false false = refl
 
--- the polynomial comes in for each of two halves, or for neither, or for their sum
-halves-added : (mask u v : ℕ) (p q : Bool) → (if xor p q then bitXor mask (bitXor u v) else bitXor u v)
+-- the polynomial comes into a sum exactly if it comes into one of the two alone: in both, it is gone
+taps-added : (mask u v : ℕ) (p q : Bool) → (if xor p q then bitXor mask (bitXor u v) else bitXor u v)
     ≡ bitXor (if p then bitXor mask u else u) (if q then bitXor mask v else v)
 unfolding xor
-halves-added mask u v true true = rw (xor-comm mask u, xor-assoc u mask (bitXor mask v), ← xor-assoc mask mask v, xor-self mask, xor-zero-l v)
-halves-added mask u v true false = sym (xor-assoc mask u v)
-halves-added mask u v false true = rw (← xor-assoc u mask v, xor-comm u mask, xor-assoc mask u v)
-halves-added mask u v false false = refl
+taps-added mask u v true true = rw (xor-comm mask u, xor-assoc u mask (bitXor mask v), ← xor-assoc mask mask v, xor-self mask, xor-zero-l v)
+taps-added mask u v true false = sym (xor-assoc mask u v)
+taps-added mask u v false true = rw (← xor-assoc u mask v, xor-comm u mask, xor-assoc mask u v)
+taps-added mask u v false false = refl
 
 -- a register added to another: its own step, with a zero, comes beside the other's
 pub bit-linear : (mask r s : ℕ) (b : Bool) → crcBit mask (bitXor r s) b ≡ bitXor (crcBit mask r false) (crcBit mask s b)
 unfolding crcBit
 bit-linear mask r s b =
     rw (bit-sum r s, xor-shr r s 1, bool-assoc (bitOf r 0) (bitOf s 0) b, xor-false (bitOf r 0))
-    (halves-added mask (r / 2) (s / 2) (bitOf r 0) (xor (bitOf s 0) b))
+    (taps-added mask (r / 2) (s / 2) (bitOf r 0) (xor (bitOf s 0) b))
 
 pub bits-linear : (mask k r s n : ℕ) → crcBits mask (bitXor r s) (bitsOf k n) ≡ bitXor (afterZeros mask k r) (crcBits mask s (bitsOf k n))
 unfolding crcBits bitsOf bitOf
@@ -112,7 +112,7 @@ bits-at-once mask j k r n =
     goes-on : crcBits mask stay (bitsOf (j + k) n) ≡ crcBits mask (r / 2 ^ j) (bitsOf k (n / 2 ^ j))
     goes-on = rw (bits-add j k n, bits-join mask stay, low, bits-out mask j stay, high)
 
--- and so, after zeros, what is above the j lowest bits
+-- the same with zeros that come in
 pub zeros-at-once : (mask j k r : ℕ) → afterZeros mask (j + k) r ≡ bitXor (afterZeros mask (j + k) (r % 2 ^ j)) (afterZeros mask k (r / 2 ^ j))
 zeros-at-once mask j k r = rw (xor-zero-r, zero-div) at (bits-at-once mask j k r 0)
 
@@ -144,7 +144,7 @@ run-at-once mask r {byte} bytes small =
     rw (run-cons mask r byte bytes, byte-at-once mask r small, ← zeros-join mask 8 (length bytes * 8) (bitXor (r % 256) byte))
     (run-linear mask (afterZeros mask 8 (bitXor (r % 256) byte)) (r / 256) bytes)
 
--- four bytes into a register of 16 bits; those that fall out of it come last, because the next four wait for them alone
+-- four bytes into a register of 16 bits; the two that meet it stand last, as in the code
 pub four-at-once : (mask : ℕ) {r a b c d : ℕ} → r < 2 ^ 16 → a < 256 → b < 256 → c < 256 → d < 256 → crcRun mask r (a ∷ b ∷ c ∷ d ∷ [])
     ≡ bitXor (bitXor (bitXor (afterZeros mask 16 c) (afterZeros mask 8 d)) (afterZeros mask 24 (bitXor (r / 256) b))) (afterZeros mask 32 (bitXor (r % 256) a))
 four-at-once mask {r} {a} {b} {c} {d} small ha hb hc hd =

@@ -18,8 +18,8 @@ none-below (suc k) n (none, other) = omega (arith, none-below k n none, other)
 
 returns-16 : tie.Need-returns-16
 returns-16 c =
-    let half = c .before .args .half in
-    let last : half % 16 ≡ 15 = omega (arith, none-below 15 (half % 16) (c .match .rest)) in
+    let number = c .before .args .number in
+    let last : number % 16 ≡ 15 = omega (arith, none-below 15 (number % 16) (c .match .rest)) in
     rw last
 
 pub entry-spec : {M : Type 1} → statement M
