@@ -1,5 +1,5 @@
 -- "Bytes travel low bit first" (document 01, "Choosing a tag on the line"). Assumes nothing.
-use mathlib.Core.Bool.{Bool, true, false}
+use mathlib.Core.Bool.{Bool, true, false, cond}
 use mathlib.Core.List.{List, [], _∷_, flatMap}
 use Prim.Native.Nat.{ℕ, zero, suc, _+_, _-_, _*_, _/_, _%_, _^_}
 use lib.Dec.{eqb}
@@ -8,8 +8,7 @@ pub mod Laws
 
 -- the number of a bit
 abbrev pub digit : Bool → ℕ
-digit true = 1
-digit false = 0
+digit b = cond b 1 0
 
 -- bit i of n, counted from the low end
 unfoldable pub bitOf : ℕ → ℕ → Bool

@@ -1,4 +1,6 @@
 pub mod Runs
+pub mod Words
+pub mod Ranges
 pub mod Alarms
 pub mod Refusals
 pub mod Demand1

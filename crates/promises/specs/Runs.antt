@@ -1,11 +1,10 @@
 -- Runs: events one after the other, and the states that they reach from a new tag (document 01, "Events and what they return"; request
 -- #103). Assumes nothing.
-use mathlib.Core.Bool.{Bool}
+use mathlib.Core.Bool.{Bool, cond}
 use mathlib.Core.List.{List, [], _∷_}
 use mathlib.Core.Path.{_≡_}
 use Prim.Native.Nat.{ℕ}
 use Rattle.answer.specs.declared.Answer.{Answer}
-use Rattle.bits.specs.Bits.{digit}
 use Rattle.record.specs.declared.Tag.{Tag}
 use Rattle.record.specs.Record.{Outcome}
 use Rattle.tag.specs.Tag.{newTag, step}
@@ -24,7 +23,7 @@ pub data Event : Type 0 where
   short : Event
 
 abbrev pub codeOf : Event → ℕ
-codeOf (Event.slot bit) = digit bit
+codeOf (Event.slot bit) = cond bit 1 0
 codeOf Event.reset = 2
 codeOf (Event.tick reading) = 3
 codeOf Event.short = 4

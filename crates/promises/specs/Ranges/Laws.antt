@@ -1,0 +1,1 @@
+-- The ranges are those that the crates test, and every event keeps a fit state. Assumes nothing.

@@ -1,0 +1,1 @@
+-- The words are what the crates' definitions say: one law a word. Assumes nothing.
