@@ -8,7 +8,6 @@ use Rattle.image.specs.Tables.{writable}
 use Rattle.image.specs.declared.Region.{Region}
 use Rattle.image.specs.declared.Region.the-variants.{User, Registers, Calibration, Reserved, Log}
 pub mod Laws
-pub mod Sent
 
 -- the old byte's bits outside the mask, the new byte's inside
 unfoldable pub blend : ℕ → ℕ → ℕ → ℕ

@@ -5,11 +5,10 @@ use mathlib.Core.Path.{_≡_}
 use mathlib.Core.Bool.{Bool, true, false, not, _&&_, _||_}
 use mathlib.Core.List.{List, [], _∷_, _++_, map}
 use mathlib.Core.Logic.{_≢_}
-use Prim.Native.Nat.{ℕ, _+_, _-_}
+use Prim.Native.Nat.{ℕ, _-_}
 use lib.Dec.{eqb, leb, ltb}
 use lib.ListN.{length, drop}
 use denote.Ref.{now}
-use Rattle.answer.specs.Answer.{answerNumber}
 use Rattle.batch.specs.declared.Batch.{Batch}
 use Rattle.batch.specs.Batch.{Listed, listed}
 use Rattle.batch.specs.Batch.Cuts.{joined}
@@ -17,8 +16,9 @@ use Rattle.batch.proofs.events.Reads as call
 use Rattle.bits.specs.Bits.{digit}
 use Rattle.bits.specs.Choose.{if_then_else_}
 use Rattle.record.specs.declared.Tag.{Tag}
-use Rattle.promises.specs.Refusals.{keepsRanges, firstOf}
+use Rattle.promises.specs.Ranges.{inRange}
 use Rattle.promises.specs.Runs.{State, Event, Accepts, run, Reached, Always}
+use Rattle.promises.specs.Sentences.Events.{numberIn}
 pub mod Words
 pub mod Cuts
 pub mod Proof
@@ -51,10 +51,14 @@ unfoldable pub askedNumber : List ℕ → Tag → List ℕ → List ℕ → ℕ
 askedNumber image tag words replies =
     if ltb (length replies) (length words) then 17
     else if not (eqb (length image) 8832) then 3
-    else if not (keepsRanges tag) then 6
+    else if not (inRange tag) then 6
     else 0
 
--- the first number that refuses: those, and then 1 for a refused word
+-- the first of two numbers that refuses
+unfoldable pub firstOf : ℕ → ℕ → ℕ
+firstOf first second = if eqb first 0 then second else first
+
+-- those, and then 1 for a refused word
 abbrev pub listNumber : List ℕ → Tag → List ℕ → List ℕ → ℕ
 listNumber image tag words replies =
     firstOf (askedNumber image tag words replies) (if eqb (length (eventsOf words)) (length words) then 0 else 1)
@@ -64,7 +68,7 @@ listNumber image tag words replies =
 -- of a call that was lent this image, these words and these reply bytes: what it returned (`batch`: answer, record, number done), and
 -- left in the image and in the replies. `digit` is 1 for true, 0 for false
 pub record Leaves (image : List ℕ) (tag : Tag) (words replies : List ℕ) (l : Listed) : Type 0 where
-  pub answer : answerNumber (l .batch .answer) ≡ listNumber image tag words replies
+  pub answer : numberIn (l .batch .answer) ≡ listNumber image tag words replies
   -- 17, 3 and 6: "with nothing done"
   pub refused : askedNumber image tag words replies ≢ 0 →
       (l .batch .tag ≡ tag) × (l .batch .done ≡ 0) × (l .image ≡ image) × (l .replies ≡ replies)
@@ -105,7 +109,7 @@ unfoldable pub Whole : List ℕ → Tag → List (List ℕ × List ℕ) → Type
 Whole image tag [] = Unit {0}
 Whole image tag ((some, room) ∷ before) =
     let first = listed image tag some room in
-    (answerNumber (first .batch .answer) ≡ 0) × (length room ≡ length some) × Whole (first .image) (first .batch .tag) before
+    (numberIn (first .batch .answer) ≡ 0) × (length room ≡ length some) × Whole (first .image) (first .batch .tag) before
 
 -- the one list of both differs from the two in turn; 77h is a byte that is no reply
 abbrev pub Differs : State → List ℕ → List ℕ → List ℕ → List ℕ → Type 0
@@ -130,11 +134,11 @@ pub record Batches : Type 2 where
   pub joins : (image : List ℕ) (tag : Tag) (words more replies left : List ℕ) →
       let first = listed image tag words replies in
       let rest = listed (first .image) (first .batch .tag) more left in
-      answerNumber (first .batch .answer) ≡ 0 → length replies ≡ length words → answerNumber (rest .batch .answer) ≢ 17 →
+      numberIn (first .batch .answer) ≡ 0 → length replies ≡ length words → numberIn (rest .batch .answer) ≢ 17 →
       listed image tag (words ++ more) (replies ++ left) ≡ joined first rest
   -- so any cut into batches is the same: any number of such lists, and a last one that is not 17
   pub cuts : (image : List ℕ) (tag : Tag) (before : List (List ℕ × List ℕ)) (words replies : List ℕ) → Whole image tag before →
-      answerNumber (inTurn image tag before words replies .batch .answer) ≢ 17 →
+      numberIn (inTurn image tag before words replies .batch .answer) ≢ 17 →
       listed image tag (wordsIn before words) (repliesIn before replies) ≡ inTurn image tag before words replies
   -- the three premises of `joins` are needed: after a refused word, with a reply byte to spare, and with none for the second list
   pub needed : {s : State} → Reached s →
@@ -144,6 +148,6 @@ pub record Batches : Type 2 where
   -- from a new tag by events the number is 17, 0 or 1, and what a list leads to is reached again
   pub reached : {s : State} → Reached s → (words replies : List ℕ) →
       let l = listed (s .image) (s .tag) words replies in
-      (answerNumber (l .batch .answer)
+      (numberIn (l .batch .answer)
       ≡ (if ltb (length replies) (length words) then 17 else if eqb (length (eventsOf words)) (length words) then 0 else 1))
       × Reached (record { image = l .image; tag = l .batch .tag })

@@ -9,22 +9,21 @@ use lib.Dec.{eqb, leb}
 use lib.IntN.{ℤ}
 use lib.ListN.{length, take}
 use denote.Ref.{now}
-use Rattle.answer.specs.Answer.{answerNumber}
 use Rattle.batch.specs.declared.Batch.{Batch}
 use Rattle.batch.proofs.events.Reads as list
 use Rattle.bits.specs.Bits.{digit}
 use Rattle.bits.specs.Choose.{if_then_else_}
-use Rattle.dump.specs.Dump.{dumpOf}
 use Rattle.record.specs.declared.Answered.{Answered}
 use Rattle.tag.proofs.event.Reads as event
 use Rattle.tag.proofs.new.Reads as new
 use Rattle.promises.specs.Batches.{eventsOf}
 use Rattle.promises.specs.Demand2.{Lists}
-use Rattle.promises.specs.Demand2.AtStart.{settingsOf}
-use Rattle.promises.specs.Demand2.Events.{Starts, Spares, missionTicks}
 use Rattle.promises.specs.Demand3.{Premises}
 use Rattle.promises.specs.History
 use Rattle.promises.specs.Runs.{State, Event, after, run, Reached, Always}
+use Rattle.promises.specs.Sentences.Dump.{DumpOf}
+use Rattle.promises.specs.Sentences.Events.{numberIn}
+use Rattle.promises.specs.Sentences.Course.{Starts, Spares, missionTicks, settingsOf}
 pub mod Proof
 
 -- ---- a call
@@ -32,7 +31,7 @@ pub mod Proof
 -- `tag::new` met its contract: it accepted, and left this state
 pub data Made : State → Type 2 where
   made : (κs : _) (image : _) (number code : ℕ) (r : Answered) (exit : _) → new.Post κs (image, (number, (code, tt))) r exit →
-      answerNumber (r .answer) ≡ 0 → Made (record { image = now (exit .0); tag = r .tag })
+      numberIn (r .answer) ≡ 0 → Made (record { image = now (exit .0); tag = r .tag })
 
 -- `tag::event` met its contract: from one state, with this code and reading, it put this bit on the line, and left the other state
 pub data Called (s : State) (code reading : ℕ) : Bool → State → Type 2 where
@@ -90,12 +89,12 @@ pub record Calls : Type 2 where
   -- those that are taken give `run`'s line bits and state
   pub taken : {s t : State} {events : List Event} {bits : List Bool} → Reached s → Chain s events bits t →
       run s events ≡ record { line = bits; state = t }
-  -- demand 2, of the calls after the slot in which Start was done
-  pub listing : {s end : State} {e : Event} {events : List Event} {bits : List Bool} (lent : List ℤ) → Reached s → Starts s e →
+  -- demand 2, of the calls after the event in which a Start was done
+  pub listing : {s end : State} {e : Event} {events : List Event} {bits : List Bool} → Reached s → Starts s e →
       Always Spares (after s e) events → Chain (after s e) events bits end →
       let settings = settingsOf (s .image) in
-      Lists settings (History.history settings (missionTicks (after s e) events)) (end .tag .code)
-      (dumpOf (end .image) (end .tag .code)) lent
+      (dump : List ℕ) → DumpOf end dump → (lent : List ℤ)
+      → Lists settings (History.history settings (missionTicks (after s e) events)) (end .tag .code) dump lent
   -- demand 3, of the calls of two tags
   pub line : {s t u v : State} {E F : List Event} {seen other : List Bool} → Premises s t E F → Chain s E seen u → Chain t F other v →
       seen ≡ other

@@ -2,26 +2,25 @@
 -- valid clock shows a second more at each tick, in the form that it was set to; two tags that show one moment, in one form or in both,
 -- go on showing one moment; and the stamp of a mission shows the moment of the tick that set it, in the clock's form. What a clock shows
 -- is said by `calendar` `Meaning`, which does not look at the step. Assumes nothing.
-use mathlib.Core.Path.{_≡_, refl, sym, _∙_}
-use mathlib.Core.Bool.{true}
+use mathlib.Core.Path.{_≡_, refl, _∙_}
+use mathlib.Core.Bool.{Bool, true, false}
 use mathlib.Core.List.{List, [], _∷_, map}
 use Prim.Native.Nat.{ℕ, _+_, _*_, _%_, _≤_}
+use native.Mathlib.Omega.{arith}
 use lib.ListN.{length, drop}
-use Rattle.bits.specs.Bits.{digit}
-use Rattle.calendar.specs.Calendar.{nextSecond, clockAfter}
-use Rattle.calendar.specs.Calendar.Laws.{after-zero, after-next}
 use Rattle.calendar.specs.Meaning.{formOf, century, moment, Valid}
 use Rattle.calendar.specs.Meaning.Laws.{valid-after, form-after, moment-after}
 use Rattle.calendar.specs.declared.Clock.{Clock}
-use Rattle.image.specs.Fields.{flagAt}
-use Rattle.mission.specs.Mission.Frames.{leaves-ticked}
-use Rattle.promises.specs.Demand2.AtStart.{bitAt, clockAt, clock-same}
-use Rattle.promises.specs.Demand2.Course.{tick-leaves}
-use Rattle.promises.specs.History.{Settings, Conversion, stamp}
+use Rattle.promises.specs.History.{Settings, Conversion, uncounted, stamp}
 use Rattle.promises.specs.History as history
-use Rattle.promises.specs.Line.Converting.{ticks-clock}
+use Rattle.promises.specs.Ranges.Laws.{reached-fit}
 use Rattle.promises.specs.Runs.{State, Event, after, run, Reached}
-use Rattle.promises.specs.Runs.Laws.{reached-sound, reached-after}
+use Rattle.promises.specs.Runs.Laws.{reached-after}
+use Rattle.promises.specs.Sentences.Clock.{secondsOn, clockAt}
+use Rattle.promises.specs.Sentences.Clock.Laws.{seconds-are, seconds-next, valid-named}
+use Rattle.promises.specs.Sentences.Ticking.{makes}
+use Rattle.promises.specs.Sentences.Mission.Ticks.{ticks}
+use Rattle.promises.specs.Words.{bitAt}
 pub mod Met
 
 -- ---- what is said
@@ -49,30 +48,26 @@ ticked s readings = run s (map Event.tick readings) .state
 
 -- ---- why it holds
 
-flag-same : (image : List ℕ) → flagAt image 0x0212 0 ≡ bitAt image 0x0212 0
-unfolding flagAt
-flag-same image = refl
-
-module _ {s : State} (reached : Reached s) (reading : ℕ) (small : reading ≤ 2047) where
-  eosc-stays : bitAt (after s (Event.tick reading) .image) 0x0212 0 ≡ bitAt (s .image) 0x0212 0
-  unfolding flagAt
-  eosc-stays = rw (tick-leaves (reached-sound reached) reading small) (leaves-ticked (s .image) (s .tag .counters) reading .bits 0x0212 0 tt tt tt)
-
-  clock-tick : bitAt (s .image) 0x0212 0 ≡ true → clockAt (after s (Event.tick reading) .image) ≡ nextSecond (clockAt (s .image))
-  clock-tick e =
-      clock-same (after s (Event.tick reading) .image) ∙ ticks-clock reached reading small ∙ rw (flag-same (s .image), e, clock-same (s .image))
+-- a tick leaves EOSC
+eosc-stays : {s : State} → Reached s → (reading : ℕ) → reading ≤ 2047 →
+    bitAt (after s (Event.tick reading) .image) 0x0212 0 ≡ bitAt (s .image) 0x0212 0
+eosc-stays {s} reached reading small = by-made (makes s) refl
+  where
+    by-made : (t : Bool) → makes s ≡ t → bitAt (after s (Event.tick reading) .image) 0x0212 0 ≡ bitAt (s .image) 0x0212 0
+    by-made true e = ticks (reached-fit reached) reading small .converts e .rest .bits 0x0212 0 (omega arith) refl refl
+    by-made false e = ticks (reached-fit reached) reading small .rests e .bits 0x0212 0 (omega arith) refl refl
 
 clock-ticks : (s : State) → Reached s → bitAt (s .image) 0x0212 0 ≡ true → (readings : List ℕ) → Readings readings →
-    clockAt (ticked s readings .image) ≡ clockAfter (length readings) (clockAt (s .image))
-unfolding run
-clock-ticks s reached e [] small = sym (after-zero (clockAt (s .image)))
+    clockAt (ticked s readings .image) ≡ secondsOn (length readings) (clockAt (s .image))
+unfolding run secondsOn
+clock-ticks s reached e [] small = refl
 clock-ticks s reached e (reading ∷ readings) (small, rest) =
     let next = after s (Event.tick reading) in
     clock-ticks next (reached-after reached (Event.tick reading)) (eosc-stays reached reading small ∙ e) readings rest
-    ∙ rw (clock-tick reached reading small e) (after-next (length readings) (clockAt (s .image)))
+    ∙ rw (ticks (reached-fit reached) reading small .clock, e) (seconds-next (length readings) (clockAt (s .image)))
 
-later : (n : ℕ) {c : Clock} → Valid c → Later n c (clockAfter n c)
-later n {c} v = record { valid = valid-after n v; form = form-after n c; moves = moment-after n v }
+later : (n : ℕ) {c : Clock} → Valid c → Later n c (secondsOn n c)
+later n {c} v = rw (seconds-are n (valid-named v)) (record { valid = valid-after n v; form = form-after n c; moves = moment-after n v })
 
 -- ---- the statements
 
@@ -88,7 +83,7 @@ clocks-agree r u same p q small low e = rw (clock-shows r p small .moves, clock-
 
 -- of a mission that was started with a valid clock: the stamp that demand 2 lists, which entry 0 has set, with SUTA entry 1, shows as
 -- many seconds more as its tick's number, in the clock's form
-pub stamp-shows : (settings : Settings) (first : Conversion) (entries rest : List Conversion) → drop (digit (settings .suta)) entries ≡ first ∷ rest →
+pub stamp-shows : (settings : Settings) (first : Conversion) (entries rest : List Conversion) → drop (uncounted settings) entries ≡ first ∷ rest →
     Valid (settings .clock) → Later (first .tick) (settings .clock) (stamp settings entries)
 unfolding stamp history.clockAt
 stamp-shows settings first entries rest e v = rw e (later (first .tick) v)

@@ -4,19 +4,17 @@ use mathlib.Core.Path.{_≡_}
 use mathlib.Core.Bool.{Bool, true, false}
 use mathlib.Core.List.{List, [], _∷_}
 use mathlib.Core.Logic.{_≢_, _⊎_}
-use Prim.Native.Nat.{ℕ, _≤_}
-use Rattle.bits.specs.Bits.{shiftIn}
+use Prim.Native.Nat.{ℕ, _+_, _*_, _/_, _^_, _≤_}
+use lib.Dec.{eqb, ltb}
 use Rattle.exchange.specs.declared.Exchange.{Exchange}
-use Rattle.image.specs.Keeps.{Run}
-use Rattle.image.specs.Leaves.{Flag, Leaves}
-use Rattle.image.specs.Registers.{mip, eosc, passwordControl, readPassword, fullPassword}
 use Rattle.bus.specs.declared.Control.{Control}
 use Rattle.bus.specs.declared.Guarded.{Guarded}
 use Rattle.bus.specs.declared.Hearing.{Hearing}
 use Rattle.bus.specs.declared.Stage.{Stage}
-use Rattle.select.specs.Select.{markIn, isSelected, asksAlarm}
-use Rattle.promises.specs.Alarms.{alarmFlag}
+use Rattle.select.specs.declared.Choosing.{Choosing}
 use Rattle.promises.specs.Runs.{State, Event, after, run, ticksOf, Reached, Always, Together, OnSlots}
+use Rattle.promises.specs.Sentences.Choosing.{alarm}
+use Rattle.promises.specs.Words.{if_then_else_, byteAt, bitAt, wordAt, markOf, Stays}
 pub mod Slot
 pub mod Image
 pub mod Left
@@ -29,25 +27,36 @@ pub mod Needed
 -- *field*: this slot is the last bit of a password field, and these are its eight bytes as a number, low byte first. The tag is chosen,
 -- by "a ROM command that was not failed", and gathers what follows 99h TA1 TA2 E/S, 69h TA1 TA2, 96h, CCh or 33h.
 pub record EndsField (x : Exchange) (bit : Bool) (field : ℕ) : Type 0 where
-  pub chosen : isSelected (x .select) ≡ true
+  pub chosen : x .select .choosing ≡ Choosing.Selected
   pub gathered : (g : Guarded) × (x .bus .stage ≡ Stage.Gathers g)
   pub last : x .bus .at ≡ 63
-  pub bytes : shiftIn 64 (x .bus .field) bit ≡ field
+  -- a bit is heard at the top, and what was heard before it has moved down
+  pub bytes : x .bus .field / 2 + (if bit then 1 else 0) * 2 ^ 63 ≡ field
 
 -- *conditional*: this slot is the last bit of a ROM command byte ECh
+unfoldable pub conditional : Choosing → Bool → Bool
+conditional (Choosing.Command heard count) bit = if ltb count 7 then false else eqb (heard / 2 + (if bit then 1 else 0) * 2 ^ 7) 0xEC
+conditional Choosing.Silent bit = false
+conditional (Choosing.Reading at) bit = false
+conditional (Choosing.Matching fast at) bit = false
+conditional (Choosing.Giving at) bit = false
+conditional (Choosing.Complementing at) bit = false
+conditional (Choosing.Awaiting at) bit = false
+conditional Choosing.Selected bit = false
+
 abbrev pub Conditional : Exchange → Bool → Type 0
-Conditional x bit = asksAlarm (x .select) bit ≡ true
+Conditional x bit = conditional (x .select .choosing) bit ≡ true
 
 -- this slot is the last bit of FFh after 55h
 pub record Forces (x : Exchange) (bit : Bool) : Type 0 where
-  pub chosen : isSelected (x .select) ≡ true
+  pub chosen : x .select .choosing ≡ Choosing.Selected
   pub awaited : x .bus .stage ≡ Stage.Hears (Hearing.Confirm Control.Convert)
   pub last : x .bus .at ≡ 7
-  pub byte : shiftIn 8 (x .bus .byte) bit ≡ 0xFF
+  pub byte : x .bus .byte / 2 + (if bit then 1 else 0) * 2 ^ 7 ≡ 0xFF
 
 -- *converted*: and MIP is 0 in the image, so a Forced Conversion is done
 abbrev pub Converted : State → Bool → Type 0
-Converted s bit = Forces (s .tag .exchange) bit × (mip (s .image) ≡ false)
+Converted s bit = Forces (s .tag .exchange) bit × (bitAt (s .image) 0x0215 1 ≡ false)
 
 -- ---- the premises
 
@@ -66,11 +75,11 @@ pub data Alike : Event → Event → Type 0 where
 
 -- 4. "no password field ever carries" a password of this image
 abbrev pub NoPassword : List ℕ → State → Event → Type 0
-NoPassword image = OnSlots (λ s bit. (field : ℕ) → EndsField (s .tag .exchange) bit field → (field ≢ readPassword image) × (field ≢ fullPassword image))
+NoPassword image = OnSlots (λ s bit. (field : ℕ) → EndsField (s .tag .exchange) bit field → (field ≢ wordAt image 0x0228 8) × (field ≢ wordAt image 0x0230 8))
 
 -- 5. "at each completed Conditional Search command both or neither have an alarm flag (BOR, THF or TLF) set"
 abbrev pub AlarmsAgree : State → Event → State → Event → Type 0
-AlarmsAgree s e t f = OnSlots (λ u bit. Conditional (u .tag .exchange) bit → alarmFlag (s .image) ≡ alarmFlag (t .image)) s e
+AlarmsAgree s e t f = OnSlots (λ u bit. Conditional (u .tag .exchange) bit → alarm s ≡ alarm t) s e
 
 -- premises 1 to 3
 pub record Begins (s t : State) (E F : List Event) : Type 0 where
@@ -78,11 +87,11 @@ pub record Begins (s t : State) (E F : List Event) : Type 0 where
   pub reset-t : JustReset t
   -- 2. "with password checking on, the same registration number, and equal scratchpad, address registers and Resume mark"; `held` is
   -- scratchpad, TA and E/S. "All else may differ"
-  pub checked-s : passwordControl (s .image) ≡ 0xAA
-  pub checked-t : passwordControl (t .image) ≡ 0xAA
+  pub checked-s : byteAt (s .image) 0x0227 ≡ 0xAA
+  pub checked-t : byteAt (t .image) 0x0227 ≡ 0xAA
   pub number : s .tag .exchange .number ≡ t .tag .exchange .number
   pub held : s .tag .exchange .held ≡ t .tag .exchange .held
-  pub mark : markIn (s .tag .exchange .select .mode) ≡ markIn (t .tag .exchange .select .mode)
+  pub mark : markOf s ≡ markOf t
   pub alike : Together (λ u e v f. Alike e f) s E t F
 
 -- premise 4: in neither run a field carries any of "their four passwords"
@@ -103,12 +112,12 @@ abbrev pub Unconverted : State → List Event → Type 0
 Unconverted s E = Always (OnSlots (λ u bit. Converted u bit → ⊥)) s E
 
 -- what Forced Conversions "may change": "the latest reading, the device samples counter", "and the clock", if it stood still at first;
-abbrev pub spoiltRuns : Bool → List Run
-spoiltRuns true = (0x020C, 2) ∷ (0x0223, 3) ∷ []
-spoiltRuns false = (0x0200, 6) ∷ (0x020C, 2) ∷ (0x0223, 3) ∷ []
+abbrev pub spoiltBytes : Bool → List (ℕ × ℕ)
+spoiltBytes true = (0x020C, 0x020D) ∷ (0x0223, 0x0225) ∷ []
+spoiltBytes false = (0x0200, 0x0205) ∷ (0x020C, 0x020D) ∷ (0x0223, 0x0225) ∷ []
 
 -- "the oscillator bit", bit 0 of 0212h, and "the waiting bit", bit 4 of 0215h
-abbrev pub spoiltFlags : List Flag
+abbrev pub spoiltFlags : List (ℕ × ℕ)
 spoiltFlags = (0x0212, 0) ∷ (0x0215, 4) ∷ []
 
 -- "Outside the scratchpad, address registers, Resume mark and bus state, each tag ends as the ticks alone would have left it, save that
@@ -117,8 +126,8 @@ pub record LeftToTicks (s : State) (E : List Event) : Type 0 where
   pub number : run s E .state .tag .exchange .number ≡ run s (ticksOf E) .state .tag .exchange .number
   pub code : run s E .state .tag .code ≡ run s (ticksOf E) .state .tag .code
   pub counters : run s E .state .tag .counters ≡ run s (ticksOf E) .state .tag .counters
-  pub untouched : (mip (s .image) ≡ true) ⊎ Unconverted s E → run s E .state .image ≡ run s (ticksOf E) .state .image
-  pub spoilt : Leaves (spoiltRuns (eosc (s .image))) spoiltFlags (run s (ticksOf E) .state .image) (run s E .state .image)
+  pub untouched : (bitAt (s .image) 0x0215 1 ≡ true) ⊎ Unconverted s E → run s E .state .image ≡ run s (ticksOf E) .state .image
+  pub spoilt : Stays (spoiltBytes (bitAt (s .image) 0x0212 0)) spoiltFlags (run s (ticksOf E) .state .image) (run s E .state .image)
 
 pub record Conclusions (s t : State) (E F : List Event) : Type 0 where
   -- "every bit on the line is the same"

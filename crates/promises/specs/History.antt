@@ -1,16 +1,16 @@
 -- A mission's history: what a mission logs, told from its settings at Start and the readings of its ticks alone. It never looks at
 -- an image (document 01, "A mission"; the order's demand 2). Assumes nothing.
-use mathlib.Core.Bool.{Bool, not, _&&_, _||_}
-use mathlib.Core.List.{List, [], _∷_}
+use mathlib.Core.Bool.{Bool, false, not, _&&_, _||_, cond}
+use mathlib.Core.List.{List, [], _∷_, _++_}
 use Prim.Native.Nat.{ℕ, suc, _+_, _-_, _*_, _/_, _%_, min}
 use lib.Dec.{eqb, leb, ltb}
 use lib.IntN.{ℤ, pos, _-ℤ_, _*ℤ_}
 use lib.ListN.{take, drop}
-use Rattle.bits.specs.Bits.{digit}
-use Rattle.bits.specs.Choose.{if_then_else_}
-use Rattle.calendar.specs.Calendar.{clockAfter}
 use Rattle.calendar.specs.declared.Clock.{Clock}
+use Rattle.promises.specs.Sentences.Clock.{secondsOn}
+use Rattle.promises.specs.Words.{if_then_else_}
 pub mod Laws
+pub mod Made
 
 -- ---- the settings, as Start finds them
 
@@ -42,8 +42,14 @@ unfoldable pub isTime : Settings → ℕ → Bool
 isTime s t = ltb (60 * s .delay) t && eqb ((t - 60 * s .delay - 1) % period s) 0
 
 -- "sets THF or TLF if enabled and the reading divided by 8, rounded down, is ≥ high or ≤ low threshold"
+abbrev pub highAlarm : Settings → ℕ → Bool
+highAlarm s reading = s .etha && leb (s .high) (reading / 8)
+
+abbrev pub lowAlarm : Settings → ℕ → Bool
+lowAlarm s reading = s .etla && leb (reading / 8) (s .low)
+
 unfoldable pub alarms : Settings → ℕ → Bool
-alarms s reading = (s .etha && leb (s .high) (reading / 8)) || (s .etla && leb (reading / 8) (s .low))
+alarms s reading = highAlarm s reading || lowAlarm s reading
 
 -- a conversion: the number of its tick, and the reading
 pub record Conversion : Type 0 where
@@ -59,6 +65,10 @@ conversionsFrom s t (r ∷ rs) =
 
 -- ---- entries
 
+-- entry 0 of an alarm start is "uncounted"
+abbrev pub uncounted : Settings → ℕ
+uncounted s = cond (s .suta) 1 0
+
 -- from the first conversion that alarms on, it included
 unfoldable pub fromAlarm : Settings → List Conversion → List Conversion
 fromAlarm s [] = []
@@ -71,12 +81,31 @@ toLog s cs = if s .suta then fromAlarm s cs else cs
 -- "With RO 0 conversions end when the log is full; in any case when mission samples is FFFFFFh". With SUTA entry 0 is "uncounted"
 unfoldable pub most : Settings → ℕ
 most s =
-    let countable = 0xFFFFFF + digit (s .suta) in
+    let countable = 0xFFFFFF + uncounted s in
     if s .ro then countable else min (places s) countable
 
 -- entries 0, 1, .. of a mission whose ticks had these readings
 unfoldable pub history : Settings → List ℕ → List Conversion
 history s readings = take (most s) (toLog s (conversionsFrom s 1 readings))
+
+-- ---- conversions that are made
+
+-- those before the first that alarms, which an alarm start waits through
+unfoldable pub beforeAlarm : Settings → List Conversion → List Conversion
+beforeAlarm s [] = []
+beforeAlarm s (c ∷ cs) = if alarms s (c .reading) then [] else c ∷ beforeAlarm s cs
+
+unfoldable pub waited : Settings → List ℕ → List Conversion
+waited s readings = if s .suta then beforeAlarm s (conversionsFrom s 1 readings) else []
+
+-- these, and the entries
+unfoldable pub made : Settings → List ℕ → List Conversion
+made s readings = waited s readings ++ history s readings
+
+-- one of these alarms so
+unfoldable pub someOf : (ℕ → Bool) → List Conversion → Bool
+someOf test [] = false
+someOf test (c ∷ cs) = test (c .reading) || someOf test cs
 
 -- ---- the stamp
 
@@ -86,11 +115,11 @@ zeros = record { seconds = 0; minutes = 0; hours = 0; date = 0; month = 0; year 
 -- the clock at the first of these entries, zeros while there is none
 unfoldable pub clockAt : Settings → List Conversion → Clock
 clockAt s [] = zeros
-clockAt s (c ∷ cs) = clockAfter (c .tick) (s .clock)
+clockAt s (c ∷ cs) = secondsOn (c .tick) (s .clock)
 
 -- "the first sets the stamp"; with SUTA "entry 1 sets the stamp"
 unfoldable pub stamp : Settings → List Conversion → Clock
-stamp s entries = clockAt s (drop (digit (s .suta)) entries)
+stamp s entries = clockAt s (drop (uncounted s) entries)
 
 -- ---- what the log keeps of a reading
 

@@ -1,8 +1,7 @@
 pub mod Runs
 pub mod Words
 pub mod Ranges
-pub mod Alarms
-pub mod Refusals
+pub mod Sentences
 pub mod Demand1
 pub mod History
 pub mod Demand2

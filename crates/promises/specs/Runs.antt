@@ -9,6 +9,7 @@ use Rattle.record.specs.declared.Tag.{Tag}
 use Rattle.record.specs.Record.{Outcome}
 use Rattle.tag.specs.Tag.{newTag, step}
 pub mod Laws
+pub mod Whole
 
 -- the lent image, and the record "that goes in and comes back"
 pub record State : Type 0 where

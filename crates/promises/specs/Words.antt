@@ -1,7 +1,7 @@
 -- The words of the sentences (`Sentences`): bits, bytes on the line, the CRCs by their polynomials, the bytes of the image at their addresses
 -- on the line, and the parts of the record. From the crates below come the record's types alone; numbers, lists and tests are the library's.
 -- With `Runs`, what a reader has to believe begins here. Assumes nothing.
-use mathlib.Core.Bool.{Bool, true, false, not, _&&_, _||_, xor, cond}
+use mathlib.Core.Bool.{Bool, true, false, _&&_, _||_, xor, cond}
 use mathlib.Core.List.{List, [], _∷_, _++_, flatMap}
 use mathlib.Core.Path.{_≡_}
 use Prim.Native.Nat.{ℕ, zero, suc, _+_, _-_, _*_, _/_, _%_, _^_, _<_}

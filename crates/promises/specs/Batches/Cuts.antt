@@ -7,8 +7,6 @@ use native.Mathlib.Decide.{decLe}
 use native.Mathlib.Omega.{arith}
 use lib.ListN.{length, getD, length-map}
 use lib.Seq.{sets}
-use Rattle.answer.specs.Answer.{answerNumber}
-use Rattle.answer.specs.Answer.Laws.{accepted-is}
 use Rattle.batch.specs.Batch.{Course, Listed, replied, listed}
 use Rattle.batch.specs.Batch.Laws.{list-few, list-taken}
 use Rattle.batch.specs.Batch.Cuts.{joined, course-length, course-in-range, list-append}
@@ -18,23 +16,25 @@ use Rattle.record.specs.declared.Tag.{Tag}
 use Rattle.record.specs.Record.{Outcome}
 use Rattle.promises.specs.Batches.{isRefused, eventOf, eventsOf, inTurn, wordsIn, repliesIn, Whole, Differs}
 use Rattle.promises.specs.Batches.Words.{course-run}
-use Rattle.promises.specs.Runs.{State, after, run}
+use Rattle.promises.specs.Runs.{State, run}
 use Rattle.promises.specs.Runs.Laws.{line-length, Sound, reset-happens}
+use Rattle.promises.specs.Sentences.Events.{numberIn}
+use Rattle.promises.specs.Sentences.Events.Proof.{number-accepts}
 
 -- ---- two lists, and any number
 
 pub join : (image : List ℕ) (tag : Tag) (words more replies left : List ℕ) →
     let first = listed image tag words replies in
     let rest = listed (first .image) (first .batch .tag) more left in
-    answerNumber (first .batch .answer) ≡ 0 → length replies ≡ length words → answerNumber (rest .batch .answer) ≢ 17 →
+    numberIn (first .batch .answer) ≡ 0 → length replies ≡ length words → numberIn (rest .batch .answer) ≢ 17 →
     listed image tag (words ++ more) (replies ++ left) ≡ joined first rest
 join image tag words more replies left accepted exact room =
     dite (decLe (length more) (length left))
-    (λ h. list-append image tag words more replies left (accepted-is _ accepted) exact h)
-    (λ no. absurd (room (ap (λ (l : Listed). answerNumber (l .batch .answer)) (list-few _ _ more left (omega (arith, no))))))
+    (λ h. list-append image tag words more replies left (number-accepts accepted) exact h)
+    (λ no. absurd (room (ap (λ (l : Listed). numberIn (l .batch .answer)) (list-few _ _ more left (omega (arith, no))))))
 
 pub cut : (image : List ℕ) (tag : Tag) (before : List (List ℕ × List ℕ)) (words replies : List ℕ) → Whole image tag before →
-    answerNumber (inTurn image tag before words replies .batch .answer) ≢ 17 →
+    numberIn (inTurn image tag before words replies .batch .answer) ≢ 17 →
     listed image tag (wordsIn before words) (repliesIn before replies) ≡ inTurn image tag before words replies
 unfolding Whole wordsIn repliesIn inTurn
 cut image tag [] words replies whole room = refl

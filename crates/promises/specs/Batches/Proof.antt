@@ -3,7 +3,7 @@ use mathlib.Core.Path.{_≡_, refl, sym, subst, _∙_}
 use mathlib.Core.Bool.{Bool, true, false}
 use mathlib.Core.List.{List}
 use mathlib.Core.Logic.{dite}
-use Prim.Native.Nat.{ℕ, _-_}
+use Prim.Native.Nat.{ℕ}
 use native.Mathlib.Decide.{decLe}
 use native.Mathlib.Omega.{arith}
 use borrow.Author.Tests.{eq-eqb}
@@ -13,11 +13,10 @@ use denote.Ref.{now}
 use Rattle.batch.specs.Batch.{Listed, listed}
 use Rattle.batch.specs.Batch.Laws.{list-few, list-taken}
 use Rattle.bits.specs.Choose.{if_then_else_}
-use Rattle.promises.specs.Batches.{eventsOf, askedNumber, listNumber, Leaves, Batches}
-use Rattle.promises.specs.Refusals.{firstOf}
-use Rattle.promises.specs.Refusals.Laws.{keeps-ranges}
+use Rattle.promises.specs.Batches.{eventsOf, askedNumber, firstOf, listNumber, Leaves, Batches}
 use Rattle.promises.specs.Batches.Words.{course-run, list-leaves}
 use Rattle.promises.specs.Batches.Cuts.{join, cut, after-refused, reply-spared, reply-missing}
+use Rattle.promises.specs.Ranges.Laws.{range-is}
 use Rattle.promises.specs.Runs.{State, Reached}
 use Rattle.promises.specs.Runs.Laws.{reached-sound, reached-run}
 
@@ -38,7 +37,7 @@ reached-number : {s : State} → Reached s → (words replies : List ℕ) →
 unfolding askedNumber
 reached-number {s} r words replies =
     let sound = reached-sound r in
-    rw (eq-eqb (length (s .image)) 8832 (sound .size), keeps-ranges (s .tag), sound .ranges)
+    rw (eq-eqb (length (s .image)) 8832 (sound .size), range-is (s .tag), sound .ranges)
     (first-asked (ltb (length replies) (length words)) _)
 
 reached-left : {s : State} → Reached s → (words replies : List ℕ) →

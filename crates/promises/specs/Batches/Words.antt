@@ -11,7 +11,6 @@ use borrow.Author.Tests.{lt-ltb, le-ltb, le-leb, lt-leb, eq-eqb, ne-eqb}
 use lib.Dec.{eqb, eqb·zero-suc, eqb·suc-suc}
 use lib.ListN.{length, length-map}
 use lib.Seq.{sets-eq, length-sets}
-use Rattle.answer.specs.Answer.{answerNumber}
 use Rattle.answer.specs.declared.Answer.{Answer}
 use Rattle.batch.specs.Batch.{isEvent, Course, courseOf, undone, replied, listed}
 use Rattle.batch.specs.Batch as batch
@@ -21,11 +20,12 @@ use Rattle.bits.specs.Bits.{digit}
 use Rattle.bits.specs.Choose.{if_then_else_, either}
 use Rattle.record.specs.declared.Tag.{Tag}
 use Rattle.tag.specs.Tag.{step}
-use Rattle.promises.specs.Batches.{isRefused, eventOf, eventsOf, askedNumber, Leaves}
-use Rattle.promises.specs.Refusals.{firstOf}
-use Rattle.promises.specs.Refusals.Laws.{numbered, keeps-ranges}
+use Rattle.promises.specs.Batches.{isRefused, eventOf, eventsOf, askedNumber, firstOf, Leaves}
+use Rattle.promises.specs.Ranges.Laws.{range-is}
 use Rattle.promises.specs.Runs.{State, Event, Accepts, after, happens, run, Always}
 use Rattle.promises.specs.Runs.Laws.{line-length, Sound, Valid, sound-accepts, sound-after}
+use Rattle.promises.specs.Sentences.Events.{numberIn}
+use Rattle.promises.specs.Sentences.Events.Proof.{numbered}
 
 -- ---- words
 
@@ -144,15 +144,15 @@ pub asked-none : {s : State} → Sound s → (words replies : List ℕ) → leng
     askedNumber (s .image) (s .tag) words replies ≡ 0
 unfolding askedNumber
 asked-none {s} sound words replies room =
-    rw (le-ltb (length replies) (length words) room, eq-eqb (length (s .image)) 8832 (sound .size), keeps-ranges (s .tag), sound .ranges)
+    rw (le-ltb (length replies) (length words) room, eq-eqb (length (s .image)) 8832 (sound .size), range-is (s .tag), sound .ranges)
 
 module _ (image : List ℕ) (tag : Tag) (words replies : List ℕ) where
-  refusing : (answer : Answer) → askedNumber image tag words replies ≡ answerNumber answer → answerNumber answer ≢ 0 →
+  refusing : (answer : Answer) → askedNumber image tag words replies ≡ numberIn answer → numberIn answer ≢ 0 →
       Leaves image tag words replies (undone answer image tag replies)
   unfolding firstOf
   refusing answer asked bad =
       record {
-        answer = rw (asked, ne-eqb (answerNumber answer) 0 bad);
+        answer = rw (asked, ne-eqb (numberIn answer) 0 bad);
         refused = λ _. (refl, refl, refl, refl);
         same = λ none. absurd (bad (sym asked ∙ none));
         bits = λ none. absurd (bad (sym asked ∙ none));
@@ -186,7 +186,7 @@ module _ (image : List ℕ) (tag : Tag) (words replies : List ℕ) where
       refusing Answer.ImageLength (rw (le-ltb (length replies) (length words) room, ne-eqb (length image) 8832 size)) (λ e. absurd (omega (arith, e))))
       (λ room whole broken.
       refusing Answer.RecordRange
-      (rw (le-ltb (length replies) (length words) room, eq-eqb (length image) 8832 whole, keeps-ranges tag, broken))
+      (rw (le-ltb (length replies) (length words) room, eq-eqb (length image) 8832 whole, range-is tag, broken))
       (λ e. absurd (omega (arith, e))))
       (λ room whole inRange.
       let sound : Sound (record { image = image; tag = tag }) = record { size = whole; ranges = inRange } in

@@ -8,14 +8,13 @@ use native.Mathlib.Decide.{decLe}
 use native.Mathlib.Omega.{arith}
 use borrow.Author.Tests.{eqb-true, eqb-false, leb-true, leb-false, lt-ltb}
 use lib.Dec.{eqb, leb}
+use lib.IntN.{ℤ}
 use lib.ListN.{length, getD, take, drop, length-map}
 use lib.Seq.{take-at}
 use denote.Ref.{now}
-use Rattle.answer.specs.Answer.Laws.{accepted-is}
 use Rattle.bits.specs.Bits.{digit}
 use Rattle.bits.specs.Bits.Laws.{digit-same}
 use Rattle.bits.specs.Choose.{if_then_else_}
-use Rattle.dump.specs.Dump.{dumpOf}
 use Rattle.record.specs.declared.Answered.{Answered}
 use Rattle.record.specs.Record.{Outcome}
 use Rattle.tag.specs.Tag.{eventOf, step}
@@ -25,13 +24,14 @@ use Rattle.promises.specs.Batches.Words.{asked-none}
 use Rattle.promises.specs.Batches.Proof.{batches}
 use Rattle.promises.specs.Calls.{Made, Called, Handed, Meaning, meaningOf, Chain, Calls}
 use Rattle.promises.specs.Demand2.{Lists, demand2}
-use Rattle.promises.specs.Demand2.AtStart.{settingsOf}
-use Rattle.promises.specs.Demand2.Events.{missionTicks}
 use Rattle.promises.specs.Demand3.{JustReset}
 use Rattle.promises.specs.Demand3.Proof.{demand3}
 use Rattle.promises.specs.History
 use Rattle.promises.specs.Runs.{State, Event, leaves, happens, after, lineBit, Ran, run, Reached}
+use Rattle.promises.specs.Sentences.Dump.{DumpOf}
+use Rattle.promises.specs.Sentences.Events.Proof.{number-accepts}
 use Rattle.promises.specs.Runs.Laws.{Sound, reached-sound, slot-happens, reset-happens, short-happens, tick-happens, line-length, run-append, reached-after, reached-run}
+use Rattle.promises.specs.Sentences.Course.{missionTicks, settingsOf}
 
 -- ---- one call, by what it is taken for
 
@@ -147,7 +147,7 @@ list-again {words = words} {room = room} reached call =
 made-reached : {s : State} → Made s → Reached s
 made-reached (Made.made κs image number code r exit p zero) =
     subst Reached (λ i. record { image = sym (p .1) i; tag = sym (p .0) i .tag })
-    (Reached.new (now image) number code (ap (λ (a : Answered). a .answer) (sym (p .0)) ∙ accepted-is (r .answer) zero))
+    (Reached.new (now image) number code (ap (λ (a : Answered). a .answer) (sym (p .0)) ∙ number-accepts zero))
 
 chain-run : {s t : State} {events : List Event} {bits : List Bool} → Reached s → Chain s events bits t →
     run s events ≡ record { line = bits; state = t }
@@ -177,12 +177,13 @@ calls =
       listed = list-again;
       refused = λ reached m call. call-refused reached call m;
       taken = chain-run;
-      listing = λ {s} {end} {e} {events} {bits} lent reached starts spares chain.
+      listing = λ {s} {end} {e} {events} {bits} reached starts spares chain.
           let settings = settingsOf (s .image) in
+          let entries = History.history settings (missionTicks (after s e) events) in
           subst
-          (λ (u : State). Lists settings (History.history settings (missionTicks (after s e) events)) (u .tag .code) (dumpOf (u .image) (u .tag .code)) lent)
+          (λ (u : State). (dump : List ℕ) → DumpOf u dump → (lent : List ℤ) → Lists settings entries (u .tag .code) dump lent)
           (ap (λ (r : Ran). r .state) (chain-run (reached-after reached e) chain))
-          (demand2 e events lent reached starts spares);
+          (demand2 e events reached starts spares);
       line = λ {s} {t} {u} {v} {E} {F} {seen} {other} premises first second.
           sym (ap (λ (r : Ran). r .line) (chain-run (reset-reached (premises .begins .reset-s)) first))
           ∙ demand3 s t E F premises .line

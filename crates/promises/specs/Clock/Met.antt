@@ -1,7 +1,7 @@
 -- The premises of `Clock` can be met, in both forms at once: an owner sets two new tags to one moment, one in the 24-hour form and one
 -- in the twelve-hour form. Assumes nothing.
 use mathlib.Core.Path.{_≡_, refl}
-use mathlib.Core.List.{List, [], _∷_, _++_}
+use mathlib.Core.List.{List, _∷_, _++_}
 use mathlib.Core.Logic.{inl, inr}
 use Prim.Native.Nat.{ℕ}
 use native.Mathlib.Omega.{arith}
@@ -17,11 +17,12 @@ use Rattle.calendar.specs.declared.Clock.{Clock}
 use Rattle.image.specs.Stored.{blend, storedRun}
 use Rattle.image.specs.Tables.{writable}
 use Rattle.promises.specs.Clock.{Timed}
-use Rattle.promises.specs.Demand2.AtStart.{clockAt}
 use Rattle.promises.specs.Demand2.Met.Page.{page-at}
 use Rattle.promises.specs.Demand3.Needed.Owner.{Owned, stored, stored-owned}
 use Rattle.promises.specs.Demand3.Needed.Tags.{number, fresh, fresh-off, fresh-idle, made, made-owned}
 use Rattle.promises.specs.Runs.{State}
+use Rattle.promises.specs.Sentences.Clock.{clockAt}
+use Rattle.promises.specs.Words.{bit}
 
 -- the registers from 0200h on: half past this hour and 5 s, 29 February 24; and EOSC, in 0212h
 abbrev page : ℕ → List ℕ
@@ -59,7 +60,7 @@ module _ (hours : ℕ) (bytes : Bytes (page hours)) (named : bitAnd (blend 0x7F 
       }
 
   timed : Timed (setTo hours)
-  unfolding bitOf blend writable
+  unfolding bit bitOf blend writable
   timed =
       record {
         reached = owned .reached;

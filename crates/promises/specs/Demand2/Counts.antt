@@ -1,7 +1,7 @@
 -- Choices that a mission and its history make alike, over numbers and tests. Assumes nothing.
 use mathlib.Core.Path.{_≡_, refl, sym, ap}
 use mathlib.Core.Bool.{Bool, true, false, not, _&&_, _||_, false≢true}
-use Prim.Native.Nat.{ℕ, _+_, _-_, _%_, _≤_, _<_, min}
+use Prim.Native.Nat.{ℕ, _+_, _-_, _*_, _/_, _%_, _≤_, _<_, min}
 use native.Mathlib.Nat.{sub-zero}
 use native.Mathlib.Omega.{arith}
 use borrow.Author.Tests.{eq-eqb, ne-eqb, eqb-true, eqb-false, le-leb, lt-leb}
@@ -75,18 +75,31 @@ pub unlogged-quiet : (w a : Bool) → (not w || a) ≡ false → a ≡ false
 unlogged-quiet true a e = e
 unlogged-quiet false a e = absurd (false≢true (sym e))
 
--- b is SUTA, f WFTA before the conversion
-pub waits-no-more : (b f a : Bool) → (not (b && f) || a) ≡ true → (b && (if (b && f) && a then false else f)) ≡ (b && false)
-waits-no-more false f a e = refl
-waits-no-more true false a e = refl
-waits-no-more true true true e = refl
-waits-no-more true true false e = absurd (false≢true e)
+-- and whether it waits on
+pub waits-no-more : (w a : Bool) → (not w || a) ≡ true → (if w && a then false else w) ≡ false
+waits-no-more false a e = refl
+waits-no-more true true e = refl
+waits-no-more true false e = sym e
 
-pub waits-on : (b f a : Bool) → (not (b && f) || a) ≡ false → (b && (if (b && f) && a then false else f)) ≡ (b && f)
-waits-on false f a e = refl
-waits-on true false a e = refl
-waits-on true true true e = absurd (false≢true (sym e))
-waits-on true true false e = refl
+pub waits-on : (w a : Bool) → (not w || a) ≡ false → (if w && a then false else w) ≡ w
+waits-on false a e = refl
+waits-on true true e = sym e
+waits-on true false e = refl
+
+-- WFTA is SUTA while there is no entry: b is SUTA, i whether there is none
+pub waits-while : (b i : Bool) → (b && (b && i)) ≡ (b && i)
+waits-while true i = refl
+waits-while false i = refl
+
+-- ---- what is kept of a reading
+
+-- by a conversion: t is TLFS, w whether the tag waits
+pub stores : (t w : Bool) (reading : ℕ)
+    → (let result = if w then reading / 8 * 8 else reading in if t then result else result / 8 * 8)
+    ≡ (if not t || w then reading / 8 * 8 else reading)
+stores true w reading = refl
+stores false true reading = omega arith
+stores false false reading = refl
 
 -- ---- places
 

@@ -4,35 +4,27 @@ use mathlib.Core.Bool.{true, false, false≢true}
 use mathlib.Core.List.{List}
 use mathlib.Core.Logic.{_⊎_}
 use Prim.Native.Nat.{ℕ, _≤_, _<_}
-use lib.ListN.{length, getD}
 use Rattle.exchange.specs.Exchange.Pad.{PaddedIn}
 use Rattle.exchange.specs.declared.Exchange.{Exchange}
 use Rattle.image.specs.Leaves.{leaves-keeps}
 use Rattle.image.specs.Registers
-use Rattle.image.specs.Stored.{storedPage}
-use Rattle.image.specs.Stored.Laws.{keeps-storedPage, bytes-storedPage, keeps-apart}
+use Rattle.image.specs.Stored.Laws.{keeps-apart}
 use Rattle.bus.specs.declared.Deed.{Deed}
 use Rattle.conversion.specs.Clock.Laws.{clock-kept, leaves-clocked}
 use Rattle.mission.specs.Mission
 use Rattle.mission.specs.Mission.Commands.{cleared-mission, started-not, mip-stopped, forced-mission}
-use Rattle.conversion.specs.Conversion.Converts.{waiting-same}
 use Rattle.mission.specs.Mission.Frames.{leaves-stopped, leaves-forced}
 use Rattle.conversion.specs.Conversion.Settings.{settings-left}
 use Rattle.mission.specs.Mission.Ticks.{ticked-idle}
 use Rattle.mission.specs.Mission.Times.{on-time-left}
-use Rattle.conversion.specs.Conversion.Whole.{Whole, whole-clocked}
+use Rattle.conversion.specs.Conversion.Whole.{whole-clocked}
 use Rattle.mission.specs.Mission.Whole.{whole-stopped, whole-forced}
 use Rattle.mission.specs.declared.Counters.{Counters}
 use Rattle.event.specs.Event.{performed, performedCounters}
 use Rattle.promises.specs.Demand2.Events.{isStop}
-use Rattle.promises.specs.Demand2.Holds.{Listed, Holds, listed-left}
+use Rattle.promises.specs.Demand2.Holds.{Listed, Holds, listed-left, measured-left}
 use Rattle.promises.specs.History.{Conversion}
-
--- ---- Copy
-
-pub whole-stored : {image : List ℕ} (pad : List ℕ) (a : ℕ) → length pad ≡ 32 → ((k : ℕ) → getD pad k 0 < 256) → Whole image → Whole (storedPage image pad a)
-whole-stored {image} pad a whole bytes w =
-    record { size = keeps-storedPage image pad a whole .lengths ∙ w .size; bytes = bytes-storedPage image pad a (w .bytes) bytes }
+use Rattle.promises.specs.Runs.Whole.{whole-stored}
 
 -- ---- no Start is done where MEMCLR is 0
 
@@ -59,8 +51,9 @@ module _ {start readings image : List ℕ} {c : Counters} (x : Exchange) (padded
           time = on-time-left l same tt tt tt (q .time);
           eosc = l .bits 0x0212 0 tt tt tt ∙ q .eosc;
           clock = clock-kept (l .keeps) tt ∙ q .clock;
-          waiting = waiting-same same (l .bits 0x0215 4 tt tt tt) ∙ q .waiting;
+          wfta = l .bits 0x0215 4 tt tt tt ∙ q .wfta;
         };
+        measured = measured-left l tt tt tt tt tt (h .measured);
       }
   holds-performed Deed.Clear n s h = rw (cleared-mission image (h .running .time .running)) h
   holds-performed Deed.Start n s h =

@@ -21,7 +21,6 @@ use Rattle.image.specs.Sent.Laws.{sent-flag, sent-whole, sent-register, sent-lo
 use Rattle.image.specs.Tables.{named, alwaysOne}
 use Rattle.conversion.specs.Clock.{stampOf}
 use Rattle.conversion.specs.Conversion as conversion
-use Rattle.mission.specs.Mission
 use Rattle.conversion.specs.Conversion.Whole.{Whole}
 
 -- a stamp "in address order"

@@ -9,7 +9,7 @@ use lib.Dec.{eqb, ltb}
 use lib.IntN.{ℤ, pos}
 use lib.ListN.{length, getD}
 use Rattle.answer.specs.declared.Answer.the-variants.{Accepted, Places}
-use Rattle.bits.specs.Bits.{digit}
+use Rattle.bits.specs.Bits.{digit, bitOf}
 use Rattle.bits.specs.Choose.{if_then_else_}
 use Rattle.dock.specs.Dumped.{Agree}
 use Rattle.dock.specs.Entries
@@ -28,11 +28,13 @@ use Rattle.conversion.specs.Conversion as conversion
 use Rattle.conversion.specs.Conversion.Settings.{places-same}
 use Rattle.record.specs.Record.{goodCode}
 use Rattle.promises.specs.Demand2.Dumped.{sixBytes, ehss-sent, etl-sent, ro-sent, suta-sent, tlf-sent, thf-sent, memclr-sent, places-sent, reading-sent, samples-sent, stamp-sent, rate-sent, dump-agrees}
-use Rattle.promises.specs.Demand2.Holds.{none, Listed}
-use Rattle.promises.specs.Demand2.AtStart.{settingsOf, rate-of, most-of, places-pos}
+use Rattle.promises.specs.Demand2.Holds.{Listed}
+use Rattle.promises.specs.Demand2.AtStart.{rate-of, most-of, places-pos}
 use Rattle.promises.specs.History
 use Rattle.promises.specs.History.{Conversion}
 use Rattle.promises.specs.History.Laws.{isNone, none-length}
+use Rattle.promises.specs.Sentences.Course.{settingsOf, none}
+use Rattle.promises.specs.Words.{bit}
 
 -- ---- counts, over numbers and tests: b is SUTA, f a flag, i whether there is no entry, m the samples, n the entries
 
@@ -49,6 +51,17 @@ flag-count false f i n m e z c = refl
 full-count : (r b : Bool) (p n : ℕ) → n ≤ (if r then 0xFFFFFF + digit b else min p (0xFFFFFF + digit b)) → (not r && ltb p n) ≡ false
 full-count true b p n le = refl
 full-count false b p n le = rw (le-ltb p n (omega arith))
+
+-- ---- a good code is a byte
+
+pub code-small : (code : ℕ) → goodCode code ≡ true → code < 256
+unfolding goodCode
+code-small code good = by-tests (eqb code 0x40) (eqb code 0x60) refl refl good
+  where
+    by-tests : (l t : Bool) → eqb code 0x40 ≡ l → eqb code 0x60 ≡ t → (l || t) ≡ true → code < 256
+    by-tests true t e f g = omega (arith, eqb-true code 0x40 e)
+    by-tests false true e f g = omega (arith, eqb-true code 0x60 f)
+    by-tests false false e f g = absurd (false≢true g)
 
 -- ---- the image, as the dock reads it
 
@@ -102,22 +115,13 @@ module _ {start : List ℕ} {es : List Conversion} {image : List ℕ} (p : Liste
         (sym (none-length es))
         samples-read))
 
-    small : code < 256
-    unfolding goodCode
-    small = by-tests (eqb code 0x40) (eqb code 0x60) refl refl good
-      where
-        by-tests : (l t : Bool) → eqb code 0x40 ≡ l → eqb code 0x60 ≡ t → (l || t) ≡ true → code < 256
-        by-tests true t e f g = omega (arith, eqb-true code 0x40 e)
-        by-tests false true e f g = omega (arith, eqb-true code 0x60 f)
-        by-tests false false e f g = absurd (false≢true g)
-
     -- ---- the listing
 
     lines : checkOf (dumpOf image code) ≡ Accepted
-    lines = dump-accepted image code (p .whole .bytes) small
+    lines = dump-accepted image code (p .whole .bytes) (code-small code good)
 
     same : Agree (dumpedAt (dumpOf image code)) (sentAt image code)
-    same = dump-agrees image code (p .whole) small
+    same = dump-agrees image code (p .whole) (code-small code good)
 
     kept : Dock.memclr (sentAt image code) ≡ false
     kept = memclr-sent image code ∙ p .memclr
@@ -138,7 +142,7 @@ module _ {start : List ℕ} {es : List Conversion} {image : List ℕ} (p : Liste
             ehss = settingsOf start .ehss;
             suta = settingsOf start .suta;
           }
-      unfolding listed settingsOf flagAt
+      unfolding listed settingsOf bit flagAt bitOf
       listing-read =
           memory-listing (dumpOf image code) (sentAt image code) lines same kept can (length lent) fits
           ∙ rw (

@@ -10,17 +10,18 @@ use lib.ListN.{length, replicate}
 use Rattle.answer.specs.declared.Answer.the-variants.{Accepted}
 use Rattle.bits.specs.Bits.{bitsOf, released}
 use Rattle.dock.specs.Listing.{listingOf, temperaturesOf, secondsAt}
-use Rattle.dump.specs.Dump.{dumpOf}
 use Rattle.exchange.specs.Runs.{Way}
 use Rattle.bus.specs.declared.Control.{Control}
 use Rattle.tag.specs.Tag.{newTag}
-use Rattle.promises.specs.Demand2.Events.{MayStart, Starts}
 use Rattle.promises.specs.Demand3.Needed.Owner.{skipping}
 use Rattle.promises.specs.Line.ControlRun.{controlSlots}
-use Rattle.promises.specs.Line.Passwords.{PassesFull}
 use Rattle.promises.specs.Line.Slots.{session}
-use Rattle.promises.specs.Line.Storing.{writeSlots, copySlots}
+use Rattle.promises.specs.Line.Sessions.{writeSlots, copySlots}
 use Rattle.promises.specs.Runs.{State, Event, leaves, run, Reached}
+use Rattle.promises.specs.Sentences.Dump.{DumpOf}
+use Rattle.promises.specs.Sentences.Commands.{PassesFull}
+use Rattle.promises.specs.Sentences.Course.{Starts}
+use Rattle.promises.specs.Sentences.Mission.{MayStart}
 pub mod Start
 pub mod Page
 pub mod Ticks
@@ -34,7 +35,7 @@ startSlots field = (bitsOf 8 0xCC ++ bitsOf 64 field) ++ released 7
 
 -- a reset, a way of choosing the tag, and the slots of a Start with a right password
 abbrev pub StartMet : Type 0
-StartMet = (s : State) (way : Way) (field : ℕ) → Reached s → field < 2 ^ 64 → PassesFull (s .image) field → MayStart (s .image) →
+StartMet = (s : State) (way : Way) (field : ℕ) → Reached s → field < 2 ^ 64 → PassesFull s field → MayStart (s .image) →
     Starts (run s (session s way (startSlots field)) .state) (Event.slot true)
 
 -- ---- one mission
@@ -66,20 +67,18 @@ life =
     ++ (skipping (controlSlots Control.Start 0 0xFF)
     ++ map Event.tick readings)))
 
--- a new tag at the end of it, and its dump
+-- a new tag at the end of it
 abbrev pub ended : State → State
 ended new = run new life .state
-
-abbrev pub dumped : State → List ℕ
-dumped new = dumpOf (ended new .image) (ended new .tag .code)
 
 -- four places are lent, with 9 in each
 abbrev pub lent : List ℤ
 lent = replicate 4 (pos 9)
 
-pub record ListedSo (new : State) : Type 0 where
+-- what is listed of its dump
+pub record ListedSo (dump : List ℕ) : Type 0 where
   -- three entries, and the stamp of entry 1: 12:00:00 AM, 1 January 00, with CENT flipped, and the form as it was set
-  pub listing : listingOf (dumped new) 4
+  pub listing : listingOf dump 4
       ≡ record {
         answer = Accepted;
         code = 0x40;
@@ -90,10 +89,11 @@ pub record ListedSo (new : State) : Type 0 where
         ehss = true;
         suta = true;
       }
-  pub seconds : map (secondsAt (listingOf (dumped new) 4)) (0 ∷ 1 ∷ 2 ∷ []) ≡ negsuc 1 ∷ pos 0 ∷ pos 2 ∷ []
+  pub seconds : map (secondsAt (listingOf dump 4)) (0 ∷ 1 ∷ 2 ∷ []) ≡ negsuc 1 ∷ pos 0 ∷ pos 2 ∷ []
   -- 672, 687 and 7 are what the log keeps of the readings: of entry 0, which ended the wait, eight bits, of the others eleven
-  pub temperatures : temperaturesOf (dumped new) lent ≡ pos 16 ∷ pos 31 ∷ negsuc 648 ∷ pos 9 ∷ []
+  pub temperatures : temperaturesOf dump lent ≡ pos 16 ∷ pos 31 ∷ negsuc 648 ∷ pos 9 ∷ []
 
 -- of an L with the ROM 41 2B C5 FB 00 00 00 A1, whatever the lent image held
 abbrev pub MissionListed : Type 0
-MissionListed = (image : List ℕ) → length image ≡ 8832 → ListedSo (leaves (newTag image 0xA1000000FBC52B41 0x40))
+MissionListed = (image : List ℕ) → length image ≡ 8832 →
+    (dump : List ℕ) → DumpOf (ended (leaves (newTag image 0xA1000000FBC52B41 0x40))) dump → ListedSo dump

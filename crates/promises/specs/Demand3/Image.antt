@@ -1,9 +1,10 @@
 -- Two images beside each other: one that ticks alone have changed, and one that Forced Conversions have changed too. Assumes nothing.
 use mathlib.Core.Path.{_≡_, refl, sym, _∙_}
 use mathlib.Core.Bool.{Bool, true, false}
-use mathlib.Core.List.{List}
+use mathlib.Core.List.{List, [], _∷_}
 use Prim.Native.Nat.{ℕ, _<_}
 use lib.ListN.{length}
+use Rattle.image.specs.Keeps.{Run}
 use Rattle.image.specs.Leaves.{Leaves, leaves-then, leaves-wider}
 use Rattle.image.specs.Registers.{eosc, mip}
 use Rattle.mission.specs.declared.Counters.{Counters}
@@ -12,13 +13,24 @@ use Rattle.mission.specs.Mission.{delaying, converting, nextMinute, nextWait, t
 use Rattle.mission.specs.Mission.Alike.{clocked-both, clocked-apart, eosc-clocked, eosc-forced}
 use Rattle.mission.specs.Mission.Frames.{leaves-forced}
 use Rattle.mission.specs.Mission.Ticks.{mip-clocked, counters-ticked, ticked-idle}
-use Rattle.promises.specs.Demand3.{spoiltRuns, spoiltFlags}
+use Rattle.promises.specs.Demand3.{spoiltBytes, spoiltFlags}
+use Rattle.promises.specs.Words.{Stays}
+use Rattle.promises.specs.Words.Laws.{stays-left}
 
 -- a tick moves of the counters the reading alone
 pub counters-idle : (image : List ℕ) (c : Counters) (reading : ℕ) → mip image ≡ false →
     tickedCounters image c reading ≡ record { reading = reading; minute = c .minute; wait = c .wait }
 unfolding nextMinute nextWait delaying converting
 counters-idle image c reading idle = counters-ticked image c reading ∙ rw idle
+
+-- the bytes that Forced Conversions may change, as runs of the image
+abbrev pub spoiltRuns : Bool → List Run
+spoiltRuns true = (0x020C, 2) ∷ (0x0223, 3) ∷ []
+spoiltRuns false = (0x0200, 6) ∷ (0x020C, 2) ∷ (0x0223, 3) ∷ []
+
+pub spoilt-stays : (runs : Bool) {a b : List ℕ} → Leaves (spoiltRuns runs) spoiltFlags a b → Stays (spoiltBytes runs) spoiltFlags a b
+spoilt-stays true left = stays-left left tt
+spoilt-stays false left = stays-left left tt
 
 -- the first image is what ticks leave, the second what Forced Conversions leave besides; `runs` is whether the clock ran from the start
 pub record Spoilt (runs : Bool) (a b : List ℕ) : Type 0 where

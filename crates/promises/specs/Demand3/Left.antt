@@ -9,12 +9,13 @@ use native.Mathlib.Decide.{decLe}
 use native.Mathlib.Omega.{arith}
 use borrow.Author.Tests.{eq-eqb}
 use lib.ListN.{length}
+use Rattle.bits.specs.Bits.{bitOf}
 use Rattle.exchange.specs.declared.Exchange.{Exchange}
 use Rattle.exchange.specs.Exchange as exchange
 use Rattle.exchange.specs.Exchange.Laws as exchange-laws
 use Rattle.image.specs.Answers.{checked}
 use Rattle.image.specs.Answers.Laws.{SameKeys, keys-then, keys-kept}
-use Rattle.image.specs.Fields.{flagAt}
+use Rattle.image.specs.Fields.{wordAt, flagAt}
 use Rattle.image.specs.Leaves.{leaves-same}
 use Rattle.image.specs.Registers.{mip, eosc, passwordControl, fullPassword}
 use Rattle.select.specs.declared.Select.{Select}
@@ -28,8 +29,10 @@ use Rattle.mission.specs.Mission.Commands.{forced-mission}
 use Rattle.event.specs.Event.{answerTo, slotted, resetTag, shortTag, tickTag}
 use Rattle.record.specs.Record.Laws.{ranges-of}
 use Rattle.promises.specs.Demand3.{EndsField, Forces, Converted, Unconverted, LeftToTicks, NoPassword}
-use Rattle.promises.specs.Demand3.Image.{counters-idle, Spoilt, spoilt-idle, spoilt-forced, spoilt-ticked}
+use Rattle.promises.specs.Demand3.Image.{counters-idle, spoilt-stays, Spoilt, spoilt-idle, spoilt-forced, spoilt-ticked}
 use Rattle.promises.specs.Demand3.Slot.{unlet-write, convert-forces, unguarded-performed, unguarded-counters}
+use Rattle.promises.specs.Words.{bit}
+use Rattle.promises.specs.Words.Laws.{stays-equal}
 use Rattle.promises.specs.Runs.{State, Event, after, run, ticksOf, Kept, Always, OnSlots}
 use Rattle.promises.specs.Runs.Laws.{invariant-always, always-map, Sound, sound-after, slot-happens, reset-happens, short-happens, reset-keeps, short-keeps, tick-happens, tick-refused, on-slots, all-slots, always-all}
 
@@ -38,6 +41,7 @@ abbrev pub NoFull : List ℕ → State → Event → Type 0
 NoFull image = OnSlots (λ s bit. (field : ℕ) → EndsField (s .tag .exchange) bit field → field ≢ fullPassword image)
 
 pub no-full : (image : List ℕ) (s : State) (e : Event) → NoPassword image s e → NoFull image s e
+unfolding wordAt
 no-full image = on-slots (λ s bit p field ends. p field ends .1)
 
 -- a tag with checking on, that has let no field write: it has the passwords of the image that it began with
@@ -241,6 +245,7 @@ equal-ticks a b c reading e = (ap (λ (i : List ℕ). ticked i c reading) e, ap 
 
 equal-forces : (a : List ℕ) (s : State) (bit : Bool) → length (s .image) ≡ 8832 → (Converted s bit → ⊥) → Forces (s .tag .exchange) bit →
     s .image ≡ a → forced (s .image) (s .tag .counters) ≡ a
+unfolding bit bitOf flagAt
 equal-forces a s bit size none f e = by (mip (s .image)) refl
   where
     by : (mission : Bool) → mip (s .image) ≡ mission → forced (s .image) (s .tag .counters) ≡ a
@@ -273,6 +278,7 @@ flag-stays at i b by-tick by-force image s (Event.tick reading) (g, h) wrong =
 
 -- in a mission none is
 mission-unconverted : (s : State) (E : List Event) → Guards (s .image) s → mip (s .image) ≡ true → Always (NoFull (s .image)) s E → Unconverted s E
+unfolding bit bitOf flagAt
 mission-unconverted s E g m wrong =
     always-map none s E
     (invariant-always (λ u. Guards (s .image) u × (mip (u .image) ≡ true)) (NoFull (s .image))
@@ -300,12 +306,13 @@ spoilt-run s E g m wrong =
 -- ---- together
 
 pub left-to-ticks : (s : State) (E : List Event) → Guards (s .image) s → Always (NoFull (s .image)) s E → LeftToTicks s E
+unfolding bit bitOf flagAt
 left-to-ticks s E g wrong = by (mip (s .image)) refl
   where
     by : (mission : Bool) → mip (s .image) ≡ mission → LeftToTicks s E
     by true m =
         let b = unconverted-run s E g wrong (mission-unconverted s E g m wrong) in
-        record { number = b .number; code = b .code; counters = b .counters; untouched = λ h. b .images; spoilt = rw (b .images) leaves-same }
+        record { number = b .number; code = b .code; counters = b .counters; untouched = λ h. b .images; spoilt = stays-equal (b .images) }
     by false m =
         let b = spoilt-run s E g m wrong in
         record {
@@ -313,5 +320,5 @@ left-to-ticks s E g wrong = by (mip (s .image)) refl
           code = b .code;
           counters = b .counters;
           untouched = λ h. ⊎-elim (λ mission. absurd (true≢false (sym mission ∙ m))) (λ none. unconverted-run s E g wrong none .images) h;
-          spoilt = b .images .leaves;
+          spoilt = spoilt-stays (eosc (s .image)) (b .images .leaves);
         }

@@ -13,9 +13,9 @@ use Rattle.bus.specs.declared.Control.{Control}
 use Rattle.bus.specs.declared.Guarded.{Guarded}
 use Rattle.bus.specs.declared.Stage.{Stage}
 use Rattle.field.specs.Field.{copies}
-use Rattle.promises.specs.Alarms.{alarmFlag}
 use Rattle.promises.specs.Demand3.{EndsField, Conditional, Converted, AlarmsAgree, NoneCarried, Begins, Premises, LeftToTicks}
 use Rattle.promises.specs.Runs.{State, Event, run, ticksOf, Together}
+use Rattle.promises.specs.Sentences.Choosing.{alarm}
 pub mod Walk
 pub mod Stranger
 pub mod Fields
@@ -69,7 +69,7 @@ pub record PremisesMet : Type 0 where
   pub read : readPassword (s .image) ≢ readPassword (t .image)
   pub full : fullPassword (s .image) ≢ fullPassword (t .image)
   pub memory : getD (s .image) 0x0000 0 ≢ getD (t .image) 0x0000 0
-  pub flags : alarmFlag (s .image) ≢ alarmFlag (t .image)
+  pub flags : alarm s ≢ alarm t
   pub readings : ticksOf E ≢ ticksOf F
   -- and in both runs all is tried with one field
   pub field : ℕ
@@ -108,7 +108,7 @@ pub record AlarmsNeeded : Type 0 where
 
 -- the slot is the last bit of a ROM command byte ECh, and an alarm flag is set
 abbrev pub Joins : State → Bool → Type 0
-Joins u bit = Conditional (u .tag .exchange) bit × (alarmFlag (u .image) ≡ true)
+Joins u bit = Conditional (u .tag .exchange) bit × (alarm u ≡ true)
 
 pub record MissionMet : Type 0 where
   pub s : State

@@ -8,16 +8,18 @@ use Rattle.exchange.specs.declared.Slotted.{Slotted}
 use Rattle.exchange.specs.Exchange as exchange
 use Rattle.exchange.specs.Exchange.Laws as exchange-laws
 use Rattle.memory.specs.Phases.{opened, lets}
-use Rattle.select.specs.Select.{speedIn, resetSelect, restarted}
+use Rattle.image.specs.Fields.{wordAt}
+use Rattle.select.specs.Select.{markIn, speedIn, resetSelect, restarted}
 use Rattle.event.specs.Event.{answerTo, slotted, resetTag, shortTag, tickTag}
 use Rattle.record.specs.Record.{Outcome}
-use Rattle.promises.specs.Alarms.{alarmFlag, alarmed-flag}
 use Rattle.promises.specs.Demand3.{Conditional, Alike, NoPassword, AlarmsAgree, Demand3}
 use Rattle.promises.specs.Demand3.Reset.{reset-again, reset-opened, begins-guarded}
 use Rattle.promises.specs.Demand3.Left.{Guards, guards-checked, guards-range, guards-after, left-to-ticks, no-full}
 use Rattle.promises.specs.Demand3.Slot.{alarm-asked, unlet}
+use Rattle.promises.specs.Line.Choosing.{alarm-is}
 use Rattle.promises.specs.Runs.{State, Event, after, lineBit}
 use Rattle.promises.specs.Runs.Laws.{relation, always-map, together-with, slot-happens, reset-happens, short-happens, tick-happens}
+use Rattle.promises.specs.Sentences.Choosing.{alarm}
 
 -- ---- one event of two tags that stand alike
 
@@ -41,21 +43,21 @@ answers u bit x = answerTo (u .image) (u .tag .code) (exchange.asks x bit)
 
 unlet-guarded : {image : List ℕ} {u : State} (bit : Bool) → Guards image u → NoPassword image u (Event.slot bit) →
     lets (exchange.asks (u .tag .exchange) bit) (answers u bit (u .tag .exchange)) ≡ false
-unfolding answers
+unfolding answers wordAt
 unlet-guarded {u = u} bit g wrong =
     unlet (u .image) (u .tag .code) (u .tag .exchange) bit (guards-range g) (guards-checked g)
     (λ field ends. (λ e. wrong field ends .0 (e ∙ g .keys .read), λ e. wrong field ends .1 (e ∙ g .keys .full)))
 
 module _ {i j : List ℕ} {s t : State} (w : Twins i j s t) (bit : Bool)
     (wrong-s : NoPassword i s (Event.slot bit)) (wrong-t : NoPassword j t (Event.slot bit))
-    (alarms : Conditional (s .tag .exchange) bit → alarmFlag (s .image) ≡ alarmFlag (t .image)) where
+    (alarms : Conditional (s .tag .exchange) bit → alarm s ≡ alarm t) where
   agree : exchange.slotOf (s .tag .exchange) bit (answers s bit (s .tag .exchange)) ≡ exchange.slotOf (t .tag .exchange) bit (answers t bit (t .tag .exchange))
   unfolding answers answerTo
   agree =
       let x = s .tag .exchange in
       exchange-laws.shut-agree x bit (answers s bit x) (answers t bit x) (w .shut) (unlet-guarded bit (w .guards-s) wrong-s)
       (subst (λ (y : Exchange). lets (exchange.asks y bit) (answers t bit y) ≡ false) (sym (w .same)) (unlet-guarded bit (w .guards-t) wrong-t))
-      (λ asked. rw (asked, alarmed-flag (s .image), alarmed-flag (t .image), alarms (alarm-asked x bit (guards-range (w .guards-s)) asked)))
+      (λ asked. rw (asked, alarm-is s, alarm-is t, alarms (alarm-asked x bit (guards-range (w .guards-s)) asked)))
       ∙ ap (λ (y : Exchange). exchange.slotOf y bit (answers t bit y)) (w .same)
 
   slot-line : lineBit s (Event.slot bit) ≡ lineBit t (Event.slot bit)
@@ -118,6 +120,7 @@ twins-after s e t f w (wrong-s, wrong-t, Alike.ticks m n small-m small-n, alarms
 -- ---- demand 3
 
 pub demand3 : Demand3
+unfolding markIn
 demand3 s t E F p =
     let guards-s = begins-guarded (p .begins .reset-s) (p .begins .checked-s) in
     let guards-t = begins-guarded (p .begins .reset-t) (p .begins .checked-t) in

@@ -7,13 +7,14 @@ use Rattle.exchange.specs.Exchange as exchange
 use Rattle.exchange.specs.Exchange.Laws as exchange-laws
 use Rattle.image.specs.Answers.Laws.{keys-same}
 use Rattle.image.specs.Registers.{passwordControl}
-use Rattle.select.specs.Select.{markIn, resetSelect}
+use Rattle.select.specs.Select.{resetSelect}
 use Rattle.select.specs.Select.Laws.{mark-of}
 use Rattle.memory.specs.Phases.{opened}
 use Rattle.memory.specs.Phases.Laws.{shut-writing}
 use Rattle.event.specs.Event.{resetTag}
 use Rattle.promises.specs.Demand3.{JustReset, Alike, Begins}
 use Rattle.promises.specs.Demand3.Left.{Guards}
+use Rattle.promises.specs.Words.{markIn}
 use Rattle.promises.specs.Runs.{State, Event, after, Reached, Together}
 use Rattle.promises.specs.Runs.Laws.{Sound, sound-after, reached-sound, reset-happens, sound-accepts}
 

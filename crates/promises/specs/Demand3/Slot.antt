@@ -1,5 +1,5 @@
 -- One slot of a tag with checking on: what it asks, what is answered where a field carries no password, and what it does. Assumes nothing.
-use mathlib.Core.Path.{_≡_, refl}
+use mathlib.Core.Path.{_≡_, refl, _∙_}
 use mathlib.Core.Bool.{Bool, true, false, and-eq-true-iff, false≢true}
 use mathlib.Core.List.{List}
 use mathlib.Core.Logic.{_≢_}
@@ -31,16 +31,18 @@ use Rattle.memory.specs.Range.{guardedInRange, hearingInRange, stageInRange}
 use Rattle.memory.specs.Send.{sendAsks}
 use Rattle.mission.specs.declared.Counters.{Counters}
 use Rattle.mission.specs.Mission as mission
+use Rattle.select.specs.declared.Choosing.{Choosing}
 use Rattle.select.specs.Select as select
 use Rattle.event.specs.Event.{answerTo, performed, performedCounters}
-use Rattle.promises.specs.Demand3.{EndsField, Conditional, Forces}
+use Rattle.promises.specs.Demand3.{EndsField, conditional, Conditional, Forces}
+use Rattle.promises.specs.Sentences.Commands.Cases.{chosen-is}
 
 -- ---- how many bits are past
 
 stage-in-range : (x : Exchange) → exchange.exchangeInRange x ≡ true → stageInRange (x .bus .stage) (x .held) (x .bus) ≡ true
 stage-in-range x range = ranged (x .held) (x .bus) (parts x range .1) .1
 
-gathered-lt : (x : Exchange) (g : Guarded) → exchange.exchangeInRange x ≡ true → x .bus .stage ≡ Stage.Gathers g → x .bus .at < 64
+pub gathered-lt : (x : Exchange) (g : Guarded) → exchange.exchangeInRange x ≡ true → x .bus .stage ≡ Stage.Gathers g → x .bus .at < 64
 unfolding stageInRange
 gathered-lt x g range at =
     ltb-true (x .bus .at) 64 (and-eq-true-iff (ltb (x .bus .at) 64) (guardedInRange g) .0 (rw at at (stage-in-range x range)) .0)
@@ -52,6 +54,18 @@ heard-lt x h range at =
 
 -- ---- what a slot asks
 
+-- a Conditional Search is the one command at whose end the alarm is asked for
+pub conditional-is : (c : Choosing) (bit : Bool) → conditional c bit ≡ select.endsCommand (λ byte. eqb byte 0xEC) c bit
+unfolding conditional select.endsCommand shiftIn
+conditional-is (Choosing.Command heard count) bit = refl
+conditional-is Choosing.Silent bit = refl
+conditional-is (Choosing.Reading at) bit = refl
+conditional-is (Choosing.Matching fast at) bit = refl
+conditional-is (Choosing.Giving at) bit = refl
+conditional-is (Choosing.Complementing at) bit = refl
+conditional-is (Choosing.Awaiting at) bit = refl
+conditional-is Choosing.Selected bit = refl
+
 -- what holds of no question, of the alarm's at a Conditional Search, of a byte's and of a field's at its last bit, holds of every slot's
 pub asks-cases : (P : Question → Type 0) (x : Exchange) (bit : Bool) → exchange.exchangeInRange x ≡ true →
     P Question.Nothing →
@@ -59,7 +73,7 @@ pub asks-cases : (P : Question → Type 0) (x : Exchange) (bit : Bool) → excha
     ((address : ℕ) → P (Question.Byte address)) →
     ((g : Guarded) (field : ℕ) → EndsField x bit field → P (fieldQuestion g (x .bus) field)) →
     P (exchange.asks x bit)
-unfolding exchange.asks memory.asks memory.stageAsks fieldAsks sendAsks
+unfolding exchange.asks memory.asks memory.stageAsks fieldAsks sendAsks shiftIn
 asks-cases P x bit range none alarm byte field = by (select.isSelected (x .select)) refl
   where
     fields : (g : Guarded) → select.isSelected (x .select) ≡ true → x .bus .stage ≡ Stage.Gathers g → P (fieldAsks g (x .bus) bit)
@@ -67,7 +81,7 @@ asks-cases P x bit range none alarm byte field = by (select.isSelected (x .selec
         either P (ltb (x .bus .at) 63) (λ more. none)
         (λ last. field g (shiftIn 64 (x .bus .field) bit)
         (record {
-          chosen = chosen;
+          chosen = chosen-is (x .select .choosing) chosen;
           gathered = (g, at);
           last = omega (arith, ltb-false (x .bus .at) 63 last, gathered-lt x g range at);
           bytes = refl;
@@ -92,7 +106,7 @@ asks-cases P x bit range none alarm byte field = by (select.isSelected (x .selec
     by : (chosen : Bool) → select.isSelected (x .select) ≡ chosen →
         P (if chosen then memory.asks (x .bus) bit else if select.asksAlarm (x .select) bit then Question.Alarm else Question.Nothing)
     by true chosen = staged (x .bus .stage) chosen refl
-    by false chosen = either P (select.asksAlarm (x .select) bit) alarm (λ unasked. none)
+    by false chosen = either P (select.asksAlarm (x .select) bit) (λ asked. alarm (conditional-is (x .select .choosing) bit ∙ asked)) (λ unasked. none)
 
 -- the alarm is asked for at a Conditional Search only
 pub alarm-asked : (x : Exchange) (bit : Bool) → exchange.exchangeInRange x ≡ true → exchange.asks x bit ≡ Question.Alarm → Conditional x bit
@@ -142,7 +156,7 @@ module _ (image : List ℕ) (code : ℕ) (x : Exchange) (bit : Bool) (range : ex
 -- a Forced Conversion is done with the last bit of its FFh only
 pub convert-forces : (x : Exchange) (bit : Bool) (answer : ℕ) → exchange.exchangeInRange x ≡ true →
     exchange.slotOf x bit answer .deed ≡ Deed.Convert → Forces x bit
-unfolding exchange.slotOf
+unfolding exchange.slotOf shiftIn
 convert-forces x bit answer range = by (select.isSelected (x .select)) refl
   where
     by : (chosen : Bool) → select.isSelected (x .select) ≡ chosen →
@@ -152,7 +166,7 @@ convert-forces x bit answer range = by (select.isSelected (x .select)) refl
     by true chosen e =
         let done = control-done (x .held) (x .bus) bit answer Control.Convert e in
         record {
-          chosen = chosen;
+          chosen = chosen-is (x .select .choosing) chosen;
           awaited = done .0;
           last = omega (arith, done .1, heard-lt x (Hearing.Confirm Control.Convert) range (done .0));
           byte = done .2;

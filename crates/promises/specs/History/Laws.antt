@@ -11,8 +11,8 @@ use lib.ListN.{length, take, drop, length-append, length-take}
 use lib.Seq.{take-all, take-append-le, length-take-le}
 use Rattle.bits.specs.Bits.{digit}
 use Rattle.bits.specs.Choose.{if_then_else_, choice}
-use Rattle.calendar.specs.Calendar.{clockAfter}
-use Rattle.promises.specs.History.{Settings, Conversion, places, isTime, alarms, conversionsFrom, fromAlarm, toLog, most, history, clockAt, stamp}
+use Rattle.promises.specs.History.{Settings, Conversion, places, isTime, alarms, conversionsFrom, fromAlarm, toLog, most, history, uncounted, clockAt, stamp}
+use Rattle.promises.specs.Sentences.Clock.{secondsOn}
 
 -- ---- conversions
 
@@ -89,7 +89,7 @@ take-more m cs c = by-test (leb m (length cs)) refl
         rw (take-all m (cs ++ c ∷ []) more, take-all m cs (omega arith), e)
 
 -- so many count at least one
-none-taken : (m : ℕ) (cs : List Conversion) → 0 < m → isNone (take m cs) ≡ isNone cs
+pub none-taken : (m : ℕ) (cs : List Conversion) → 0 < m → isNone (take m cs) ≡ isNone cs
 none-taken zero cs h = absurd (not-suc-le-zero h)
 none-taken (suc m) [] h = refl
 none-taken (suc m) (c ∷ cs) h = refl
@@ -97,7 +97,7 @@ none-taken (suc m) (c ∷ cs) h = refl
 pub most-pos : (s : Settings) → 0 < most s
 unfolding most places
 most-pos s =
-    let countable = 0xFFFFFF + digit (s .suta) in
+    let countable = 0xFFFFFF + uncounted s in
     choice (λ (n : ℕ). 0 < n) (s .ro) (omega arith) (choice (λ (n : ℕ). 0 < min n countable) (s .tlfs) (omega arith) (omega arith))
 
 logs-taken : (s : Settings) (log : List Conversion) (reading : ℕ) → logs s (take (most s) log) reading ≡ logs s log reading
@@ -156,13 +156,13 @@ history-le s rs = rw (length-take (most s) (toLog s (conversionsFrom s 1 rs))) (
 -- ---- the stamp
 
 pub stamp-more : (s : Settings) (es : List Conversion) (c : Conversion)
-    → stamp s (es ++ c ∷ []) ≡ if eqb (length es) (digit (s .suta)) then clockAfter (c .tick) (s .clock) else stamp s es
+    → stamp s (es ++ c ∷ []) ≡ if eqb (length es) (uncounted s) then secondsOn (c .tick) (s .clock) else stamp s es
 unfolding stamp clockAt
 stamp-more s es c = by-suta (s .suta) es
   where
     by-suta : (b : Bool) (es : List Conversion)
         → clockAt s (drop (digit b) (es ++ c ∷ []))
-        ≡ if eqb (length es) (digit b) then clockAfter (c .tick) (s .clock) else clockAt s (drop (digit b) es)
+        ≡ if eqb (length es) (digit b) then secondsOn (c .tick) (s .clock) else clockAt s (drop (digit b) es)
     by-suta false [] = refl
     by-suta false (x ∷ xs) = rw (ne-eqb (suc (length xs)) 0 (omega arith))
     by-suta true [] = refl

@@ -1,12 +1,11 @@
 -- Copy as a whole run: done, it stores with the last bit of the password and sends 0,1,0,1 on; not done, the line is the master's
 -- (document 01, "Memory commands", 99h). Assumes nothing.
 use mathlib.Core.Path.{_≡_, refl, _∙_}
-use mathlib.Core.Bool.{Bool, true, false, and-false}
+use mathlib.Core.Bool.{Bool, true, false}
 use mathlib.Core.List.{List, [], _∷_, _++_, flatMap}
-use mathlib.Core.Logic.{_≢_}
 use Prim.Native.Nat.{ℕ, _/_, _%_, _^_, _<_}
 use native.Mathlib.Omega.{arith}
-use borrow.Author.Tests.{eq-eqb, ne-eqb}
+use borrow.Author.Tests.{eq-eqb}
 use lib.Dec.{eqb}
 use Rattle.bits.specs.Bits.{bitsOf, slotsOf}
 use Rattle.bits.specs.Bits.Laws.{slots-append, digit-le}
@@ -72,20 +71,6 @@ pub copies-right : (held : Held) {may : Bool} → held .ending ≡ 0x1F → held
     copies held (copyBus (held .ta) (statusByte held)) may ≡ true
 unfolding copies asHeld toTheEnd
 copies-right held full whole may = simp (eq-eqb (held .ta) (held .ta) refl, eq-eqb (statusByte held) (statusByte held) refl, full, whole, may)
-
--- "the three equal the held ones, ending offset 1Fh, PF 0": what keeps a Copy with this address and E/S from being done
-pub data Unlike (held : Held) (address status : ℕ) : Type 0 where
-  other-address : address ≢ held .ta → Unlike held address status
-  other-status : status ≢ statusByte held → Unlike held address status
-  short : held .ending ≢ 0x1F → Unlike held address status
-  broken : held .pf ≡ true → Unlike held address status
-
-pub copies-unlike : {held : Held} {address status : ℕ} → Unlike held address status → (may : Bool) → copies held (copyBus address status) may ≡ false
-unfolding copies asHeld toTheEnd
-copies-unlike (other-address ne) may = simp (ne-eqb _ _ ne)
-copies-unlike (other-status ne) may = simp (ne-eqb _ _ ne, and-false)
-copies-unlike (short ne) may = simp (ne-eqb _ _ ne, and-false)
-copies-unlike (broken pf) may = simp (pf, and-false)
 
 -- E/S is a byte
 pub status-lt : (held : Held) → statusByte held < 256

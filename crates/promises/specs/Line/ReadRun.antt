@@ -13,6 +13,7 @@ use Rattle.bits.specs.Bits.{bitsOf, slotsOf, released}
 use Rattle.bits.specs.Bits.Laws.{slots-append, released-more}
 use Rattle.crc.specs.Crc.{crcRun, crc16Run, sentLow, sentHigh}
 use Rattle.dump.specs.Lines.{bytesFrom}
+use Rattle.exchange.specs.declared.Exchange.{Exchange}
 use Rattle.exchange.specs.Runs.{run, quietly, commanding, chosen}
 use Rattle.exchange.specs.Runs.Laws.{run-nil, quiet-then}
 use Rattle.exchange.specs.Runs.Commands.{field-quiet, run-over}
@@ -57,6 +58,31 @@ module _ (answers : Question → ℕ) (number : ℕ) (mode : Mode) (held : Held)
   readOn bus n bytes =
       record { stage = bus .stage; byte = bus .byte; at = bus .at; crc = crc16Run (bus .crc) bytes; address = bus .address + n; status = bus .status; field = bus .field }
 
+  -- a byte that is not the page's last, and what comes after it
+  byte-then : (bus : Bus) (more : List Bool) {y : Exchange} {line : List Bool} → bus .address % 32 < 31 →
+      let byte = byteAt (bus .address) in
+      run answers (commanding number mode held (goTo (addressing (readOn bus 0 (byte ∷ [])) (bus .address + 1)) (Stage.Sends Sending.Memory))) more ≡ quietly y line →
+      run answers (commanding number mode held (goTo bus (Stage.Sends Sending.Memory))) (released 8 ++ more) ≡ quietly y (bitsOf 8 byte ++ line)
+  unfolding firstByte sentWhole afterMemory sendAsks crcRun
+  byte-then bus more inside rest =
+      sent-then answers number mode Sending.Memory held bus (byteAt (bus .address)) more refl (rw (lt-ltb (bus .address % 32) 31 inside) rest)
+
+  -- some bytes before the page's last
+  some-run : (bus : Bus) (n : ℕ) → bus .address % 32 + n < 32 →
+      let bytes = bytesFrom byteAt (bus .address) n in
+      run answers (commanding number mode held (goTo bus (Stage.Sends Sending.Memory))) (released (n * 8)) ≡
+      quietly (commanding number mode held (goTo (readOn bus n bytes) (Stage.Sends Sending.Memory))) (slotsOf bytes)
+  unfolding flatMap bytesFrom crcRun
+  some-run bus zero inside =
+      let same : bus .address + 0 ≡ bus .address = omega arith in
+      rw same (run-nil answers _)
+  some-run bus (suc n) inside =
+      let next = addressing (readOn bus 0 (byteAt (bus .address) ∷ [])) (bus .address + 1) in
+      let there : bus .address + 1 + n ≡ bus .address + suc n = omega arith in
+      rw (released-more n, ← add-one (bus .address))
+      (byte-then bus (released (n * 8)) (omega arith) (rw there at (some-run next n (omega arith))))
+
+  -- all of them
   page-run : (bus : Bus) (n : ℕ) → bus .address % 32 + n ≡ 31 →
       let bytes = bytesFrom byteAt (bus .address) (suc n) in
       run answers (commanding number mode held (goTo bus (Stage.Sends Sending.Memory))) (released (suc n * 8)) ≡
@@ -68,12 +94,10 @@ module _ (answers : Question → ℕ) (number : ℕ) (mode : Mode) (held : Held)
       (sent-then answers number mode Sending.Memory held bus (byteAt (bus .address)) [] refl
       (rw (le-ltb (bus .address % 32) 31 (omega arith)) (run-nil answers _)))
   page-run bus (suc n) more =
-      let byte = byteAt (bus .address) in
-      let next = addressing (readOn bus 0 (byte ∷ [])) (bus .address + 1) in
+      let next = addressing (readOn bus 0 (byteAt (bus .address) ∷ [])) (bus .address + 1) in
       let there : bus .address + 1 + n ≡ bus .address + suc n = omega arith in
       rw (released-more (suc n), ← add-one (bus .address))
-      (sent-then answers number mode Sending.Memory held bus byte (released (suc n * 8)) refl
-      (rw (lt-ltb (bus .address % 32) 31 (omega arith)) (rw there at (page-run next n (omega arith)))))
+      (byte-then bus (released (suc n * 8)) (omega arith) (rw there at (page-run next n (omega arith))))
 
   -- and its CRC-16
   crc-run : (bus : Bus) →
@@ -135,6 +159,19 @@ module _ (answers : Question → ℕ) (number : ℕ) (mode : Mode) (held : Held)
       (quiet-then answers _ (bitsOf 64 field) _ (may-read answers number mode held start field fits (rw (lt-ltb address 0x3000 low, may)))
       (quiet-then answers _ (released (suc n * 8)) (released 16) (page-run answers number mode held start n (omega arith))
       (crc-run answers number mode held (readOn answers number mode held start n bytes)))))
+
+  -- the same before the page's end: some bytes have gone out, and the next follows
+  pub begun-run : (n : ℕ) → address < 0x3000 → eqb (answers (Question.MayRead field)) 1 ≡ true → address % 32 + n < 32 →
+      let bytes = bytesFrom (λ a. answers (Question.Byte a)) address n in
+      run answers (chosen number mode held) (slotsOf (readHead address) ++ (bitsOf 64 field ++ released (n * 8))) ≡
+      quietly (commanding number mode held (goTo (overAt (crc16Run (crc16Run 0 (readHead address)) bytes) (address + n)) (Stage.Sends Sending.Memory)))
+      (slotsOf (readHead address) ++ (bitsOf 64 field ++ slotsOf bytes))
+  unfolding afterReading
+  begun-run n low may inside =
+      let start = overAt (crc16Run 0 (readHead address)) address in
+      quiet-then answers _ (slotsOf (readHead address)) _ (head answers number mode held address (omega arith))
+      (quiet-then answers _ (bitsOf 64 field) _ (may-read answers number mode held start field fits (rw (lt-ltb address 0x3000 low, may)))
+      (some-run answers number mode held start n inside))
 
   -- with a password that may not, or past 2FFFh, the line is the master's from the command on
   pub unread-run : (bits : List Bool) → address < 65536 → (ltb address 0x3000 && eqb (answers (Question.MayRead field)) 1) ≡ false →

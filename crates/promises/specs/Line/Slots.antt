@@ -19,6 +19,7 @@ use Rattle.event.specs.Event.{answerTo, performed, performedCounters, slotted, 
 use Rattle.record.specs.Record.{Outcome}
 use Rattle.promises.specs.Runs.{State, Event, leaves, happens, after, lineBit, Ran, run, Kept}
 use Rattle.promises.specs.Runs.Laws.{Sound, sound-after, slot-happens, reset-happens}
+use Rattle.promises.specs.Words.{numberOf}
 
 -- the slots with these bits of the master, one after the other
 unfoldable pub slots : State → List Bool → Ran
@@ -147,10 +148,7 @@ run-reset s bits sound e =
 
 -- ---- sessions: a reset, a ROM command that chooses the tag, and what comes after it
 
--- the tag's number, and the tag chosen in this way: a memory command comes next
-abbrev pub numberOf : State → ℕ
-numberOf s = s .tag .exchange .number
-
+-- the tag chosen in this way: a memory command comes next
 abbrev pub chosenBy : Way → State → Exchange
 chosenBy way s = exchange.chosen (numberOf s) (wayMode way false) (s .tag .exchange .held)
 

@@ -27,18 +27,23 @@ use Rattle.select.specs.Select.Speed.{leads, leads-none, leads-silent, leads-by
 use Rattle.tag.specs.Tag.{newTag, eventOf, step}
 use Rattle.tag.specs.Tag.Laws.{new-good, new-made}
 use Rattle.promises.specs.Demand3.Left.{tick-cases}
-use Rattle.promises.specs.Line.Slots.{numberOf, line-event}
-use Rattle.promises.specs.Overdrive.{speedOf, withMode, withSpeed, ButSpeed, NoLong, NoShort, slotsIn, SetsSpeed, Overdrive}
+use Rattle.promises.specs.Line.Slots.{line-event}
+use Rattle.promises.specs.Overdrive.{withMode, withSpeed, ButSpeed, NoLong, NoShort, slotsIn, SetsSpeed, Overdrive}
+use Rattle.promises.specs.Ranges.Laws.{fit-sound}
 use Rattle.promises.specs.Runs.{State, Event, codeOf, readingOf, leaves, happens, after, lineBit, run, Reached}
 use Rattle.promises.specs.Runs.Laws.{Sound, reached-sound, sound-after, slot-happens, reset-happens, short-happens, number-after}
+use Rattle.promises.specs.Words.{numberOf, speedOf}
+use Rattle.promises.specs.Words.Laws.{low-is}
 
 -- ---- a tag at another speed
 
 -- it has that speed, and a tag at its own speed is itself
 speed-with : (speed : Bool) (s : State) → speedOf (withSpeed speed s) ≡ speed
+unfolding markIn speedIn
 speed-with speed s = speed-of (markIn (s .tag .exchange .select .mode)) speed
 
 with-own : (s : State) → withSpeed (speedOf s) s ≡ s
+unfolding markIn speedIn
 with-own s = ap (λ (mode : Mode). withMode mode s) (mode-of (s .tag .exchange .select .mode))
 
 -- so it differs at most in the speed
@@ -71,7 +76,7 @@ fast-exchange x overdrive =
     same fast = sym (mode-of mode) ∙ ap (modeOf (markIn mode)) fast ∙ ap (λ (mark : Bool). modeOf mark true) (sym (mark-of (markIn mode) false))
 
 slow : {s : State} → Sound s → speedOf s ≡ false → (lineBit s Event.short ≡ true) × (after s Event.short ≡ s)
-unfolding after shortTag
+unfolding after shortTag speedIn
 slow {s} sound standard = (
   line-event s Event.short (short-happens sound) ∙ ap not standard,
   rw (short-happens sound, slow-exchange (s .tag .exchange) standard),
@@ -79,7 +84,7 @@ slow {s} sound standard = (
 
 fast : {s : State} → Sound s → speedOf s ≡ true →
     (lineBit s Event.short ≡ false) × (after s Event.short ≡ withSpeed true (after s Event.reset))
-unfolding after shortTag resetTag
+unfolding after shortTag resetTag markIn speedIn
 fast {s} sound overdrive = (
   line-event s Event.short (short-happens sound) ∙ ap not overdrive,
   rw (short-happens sound, reset-happens sound, fast-exchange (s .tag .exchange) overdrive),
@@ -105,13 +110,13 @@ tick-exchange {s} sound reading = tick-cases sound reading (λ u. u .tag .exchan
 slot-speed : {s : State} → Sound s → (bit : Bool) (bits : List Bool) →
     let next = after s (Event.slot bit) in
     (leads (choosingOf s) (numberOf s) (bit ∷ bits) || speedOf s) ≡ (leads (choosingOf next) (numberOf s) bits || speedOf next)
-unfolding after slotted
+unfolding after slotted speedIn
 slot-speed {s} sound bit bits = rw (slot-happens sound bit) (exchange-laws.slot-leads (s .tag .exchange) bit _ bits (in-range sound))
 
 -- the speed after any events but long resets: those to come set it, or it was set
 speed-run : {s : State} → Sound s → (events : List Event) → NoLong events →
     speedOf (run s events .state) ≡ (leads (choosingOf s) (numberOf s) (slotsIn events) || speedOf s)
-unfolding run NoLong slotsIn
+unfolding run NoLong slotsIn speedIn
 speed-run {s} sound [] none = sym (rw (leads-none (choosingOf s) (numberOf s) (exchange-laws.parts (s .tag .exchange) (in-range sound) .0)))
 speed-run {s} sound (Event.slot bit ∷ events) none =
     speed-run (sound-after (Event.slot bit) sound) events none
@@ -141,13 +146,14 @@ speed-run {s} sound (Event.short ∷ events) none = by (speedOf s) refl (speed-r
 -- from a long reset on
 reset-speed : {s : State} → Sound s → (events : List Event) → NoLong events →
     speedOf (run s (Event.reset ∷ events) .state) ≡ leads (Command 0 0) (numberOf s) (slotsIn events)
-unfolding run after resetTag
+unfolding run after resetTag speedIn
 reset-speed {s} sound events none =
     speed-run (sound-after Event.reset sound) events none
     ∙ rw (reset-happens sound, speed-of) (or-false (leads (Command 0 0) (numberOf s) (slotsIn events)))
 
 new-slow : (image : List ℕ) (number code : ℕ) (accepted : newTag image number code .answered .answer ≡ Answer.Accepted) →
     (events : List Event) → NoLong events → speedOf (run (leaves (newTag image number code)) events .state) ≡ false
+unfolding speedIn
 new-slow image number code accepted events none =
     let good = new-good image number code accepted in
     speed-run (reached-sound (Reached.new image number code accepted)) events none
@@ -170,7 +176,7 @@ performed-same Deed.Stop speed x c image = refl
 performed-same Deed.Convert speed x c image = refl
 
 slot-goes : (s : State) (speed bit : Bool) → Goes (slotted (s .image) (s .tag) bit) (slotted (s .image) (withSpeed speed s .tag) bit)
-unfolding slotted exchange.asks
+unfolding slotted exchange.asks markIn speedIn
 slot-goes s speed bit =
     let x = s .tag .exchange in
     let c = s .tag .counters in
@@ -201,7 +207,7 @@ tick-goes s speed reading =
     (refl, but-with (leaves (tickTag (s .image) (s .tag) reading)) (leaves (tickTag (s .image) (withSpeed speed s .tag) reading)) speed refl)
 
 reset-but : (s : State) (speed : Bool) → ButSpeed (leaves (resetTag (s .image) (s .tag))) (leaves (resetTag (s .image) (withSpeed speed s .tag)))
-unfolding resetTag
+unfolding resetTag markIn
 reset-but s speed =
     let x = s .tag .exchange in
     let next : Exchange → State = λ y. record { image = s .image; tag = record { code = s .tag .code; counters = s .tag .counters; exchange = y } } in
@@ -263,8 +269,9 @@ seen {s} sound same =
 sets-speed : {s : State} → Sound s → (events : List Event) → NoLong events →
     speedOf (run s (Event.reset ∷ events) .state) ≡ true → SetsSpeed (numberOf s) (slotsIn events)
 sets-speed {s} sound events none set =
-    ⊎-elim (λ skip. inl skip) (λ match. inr (match .0, match .1 ∙ sym (append-assoc (bitsOf 8 0x69) (bitsOf 64 (numberOf s)) (match .0))))
-    (leads-by (numberOf s) (slotsIn events) (sym (reset-speed sound events none) ∙ set))
+    simp low-is
+    (⊎-elim (λ skip. inl skip) (λ match. inr (match .0, match .1 ∙ sym (append-assoc (bitsOf 8 0x69) (bitsOf 64 (numberOf s)) (match .0))))
+    (leads-by (numberOf s) (slotsIn events) (sym (reset-speed sound events none) ∙ set)))
 
 speed-set : {s : State} → Sound s → (events : List Event) → NoLong events →
     SetsSpeed (numberOf s) (slotsIn events) → speedOf (run s (Event.reset ∷ events) .state) ≡ true
@@ -272,7 +279,8 @@ speed-set {s} sound events none sets =
     let number = numberOf s in
     reset-speed sound events none
     ∙ ⊎-elim (λ skip. ap (leads (Command 0 0) number) (skip .1) ∙ skip-leads number (skip .0))
-    (λ match. ap (leads (Command 0 0) number) (match .1 ∙ append-assoc (bitsOf 8 0x69) (bitsOf 64 number) (match .0)) ∙ match-sets number (match .0)) sets
+    (λ match. ap (leads (Command 0 0) number) (match .1 ∙ append-assoc (bitsOf 8 0x69) (bitsOf 64 number) (match .0)) ∙ match-sets number (match .0))
+    (simp low-is at sets)
 
 begun : {s : State} → Sound s → speedOf s ≡ true → (events : List Event) → NoShort events →
     let long = run s (Event.reset ∷ events) in
@@ -290,13 +298,13 @@ begun {s} sound overdrive events none =
 pub overdrive : Overdrive
 overdrive =
     record {
-      slow = slow;
-      fast = fast;
+      slow = λ fit. slow (fit-sound fit);
+      fast = λ fit. fast (fit-sound fit);
       unread = unread;
       new = new-slow;
-      onlyIf = sets-speed;
-      sets = speed-set;
+      onlyIf = λ fit. sets-speed (fit-sound fit);
+      sets = λ fit. speed-set (fit-sound fit);
       unseen = unseen;
-      seen = seen;
-      begun = begun;
+      seen = λ fit. seen (fit-sound fit);
+      begun = λ fit. begun (fit-sound fit);
     }

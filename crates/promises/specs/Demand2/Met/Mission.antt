@@ -18,21 +18,22 @@ use Rattle.record.specs.Record.{goodCode, Outcome}
 use Rattle.tag.specs.Tag.{newTag}
 use Rattle.tag.specs.Tag.Laws.{new-made, length-new}
 use Rattle.promises.specs.Demand2.{Lists, heldOf, demand2}
-use Rattle.promises.specs.Demand2.AtStart.{settingsOf}
-use Rattle.promises.specs.Demand2.Course.{reached-solid}
-use Rattle.promises.specs.Demand2.Events.{deedAt, Starts}
-use Rattle.promises.specs.Demand2.Met.{startSlots, page, readings, life, ended, dumped, lent, ListedSo, MissionListed}
+use Rattle.promises.specs.Demand2.Course.{reached-solid, Started, starts-after}
+use Rattle.promises.specs.Demand2.Events.{slotAt}
+use Rattle.promises.specs.Demand2.Met.{startSlots, page, readings, life, ended, lent, ListedSo, MissionListed}
 use Rattle.promises.specs.Demand2.Met.Page.{written, written-off, clean, clean-may, clean-open, settings, settings-clean}
-use Rattle.promises.specs.Demand2.Met.Start.{start-comes}
+use Rattle.promises.specs.Demand2.Met.Start.{start-comes, deed-starts}
 use Rattle.promises.specs.Demand2.Met.Ticks.{ticks-spare, ticks-all, entries, history-is, stamp-is}
 use Rattle.promises.specs.Demand3.Needed.Owner.{skipping, Owned, told, told-owned, stored, stored-owned, clearedBy, cleared-owned}
 use Rattle.promises.specs.Demand3.Needed.Tags.{number, number-good, fresh, fresh-off, fresh-idle, made, made-owned}
 use Rattle.promises.specs.History
 use Rattle.promises.specs.Line.ControlRun.{controlSlots}
 use Rattle.promises.specs.Line.ControlRun.{controlByte}
-use Rattle.promises.specs.Line.Storing.{writeSlots, copySlots}
+use Rattle.promises.specs.Line.Sessions.{writeSlots, copySlots}
 use Rattle.promises.specs.Runs.{State, Event, leaves, after, Ran, run}
 use Rattle.promises.specs.Runs.Laws.{reached-sound, run-append, code-run}
+use Rattle.promises.specs.Sentences.Dump.{DumpOf}
+use Rattle.promises.specs.Sentences.Course.{Starts, settingsOf}
 
 -- ---- the owner's commands
 
@@ -52,7 +53,7 @@ cleaned-owned = cleared-owned registered-owned written-off
 abbrev asked : State
 asked = told cleaned (startSlots 0)
 
-start-asked : (asked .image ≡ cleaned .image) × (deedAt asked (Event.slot true) ≡ Deed.Start)
+start-asked : (asked .image ≡ cleaned .image) × (slotAt asked true .deed ≡ Deed.Start)
 unfolding waySlots
 start-asked =
     start-comes (reached-sound (cleaned-owned .reached)) (Way.skip false) 0 (omega arith)
@@ -64,7 +65,7 @@ asked-owned = told-owned (startSlots 0) cleaned-owned (start-asked .0 ∙ cleane
 asked-starts : Starts asked (Event.slot true)
 asked-starts =
     let whole : Whole written = rw (registered-owned .holds) at (reached-solid (registered-owned .reached) .whole) in
-    record { command = start-asked .1; may = rw (asked-owned .holds) (clean-may whole) }
+    deed-starts (reached-solid (asked-owned .reached)) (start-asked .1) (rw (asked-owned .holds) (clean-may whole))
 
 -- ---- the mission
 
@@ -102,11 +103,8 @@ ended-code =
     code-run life (reached-sound (made-owned .reached))
     ∙ ap (λ (o : Outcome). o .answered .tag .code) (new-made fresh number 0x40 (length-new 8832) number-good refl)
 
-listed : Lists settings entries 0x40 (dumped made) lent
-listed =
-    let all = demand2 (Event.slot true) (map Event.tick readings) lent (asked-owned .reached) asked-starts (ticks-spare start readings) in
-    subst (λ (code : ℕ). Lists settings entries code (dumped made) lent) ended-code
-    (rw (ap settingsOf (asked-owned .holds) ∙ settings-clean, ticks-all start readings tt, history-is, ← ended-state) at all)
+began : Started (asked .image) start
+began = starts-after (Event.slot true) (reached-solid (asked-owned .reached)) asked-starts
 
 -- ---- its listing
 
@@ -117,23 +115,35 @@ enough = omega arith
 abbrev shown : List ℤ
 shown = pos 16 ∷ pos 31 ∷ negsuc 648 ∷ pos 9 ∷ []
 
-place-at : (i : ℕ) → i < 4 → getD (temperaturesOf (dumped made) lent) i (pos 0) ≡ getD shown i (pos 0)
-unfolding History.places History.kept History.temperature
-place-at zero h = listed .temperatures enough 0 (omega arith)
-place-at (suc zero) h = listed .temperatures enough 1 (omega arith)
-place-at (suc (suc zero)) h = listed .temperatures enough 2 (omega arith)
-place-at (suc (suc (suc zero))) h = listed .past enough 3 (omega arith)
-place-at (suc (suc (suc (suc i)))) h = absurd (omega arith)
+module _ (dump : List ℕ) (is : DumpOf (ended made) dump) where
+  listed : Lists settings entries 0x40 dump lent
+  listed =
+      let all = demand2 (Event.slot true) (map Event.tick readings) (asked-owned .reached) asked-starts
+      (ticks-spare (began .solid) (began .holds .listed .memclr) readings) dump (rw ended-state at is) lent in
+      rw (
+        ap settingsOf (asked-owned .holds) ∙ settings-clean,
+        ticks-all (began .solid) (began .holds .running .time .running) readings tt,
+        history-is,
+        ← ended-state,
+        ended-code,
+      ) at all
 
-listed-made : ListedSo made
-unfolding History.places History.period History.seconds
-listed-made =
-    record {
-      listing = listed .listing enough ∙ rw stamp-is;
-      seconds = rw (listed .seconds enough 0, listed .seconds enough 1, listed .seconds enough 2);
-      temperatures = ext-getD (pos 0) (temperaturesOf (dumped made) lent) shown (listed .places)
-          (λ i h. place-at i (rw (listed .places) at h));
-    }
+  place-at : (i : ℕ) → i < 4 → getD (temperaturesOf dump lent) i (pos 0) ≡ getD shown i (pos 0)
+  unfolding History.places History.kept History.temperature
+  place-at zero h = listed .temperatures enough 0 (omega arith)
+  place-at (suc zero) h = listed .temperatures enough 1 (omega arith)
+  place-at (suc (suc zero)) h = listed .temperatures enough 2 (omega arith)
+  place-at (suc (suc (suc zero))) h = listed .past enough 3 (omega arith)
+  place-at (suc (suc (suc (suc i)))) h = absurd (omega arith)
+
+  listed-made : ListedSo dump
+  unfolding History.places History.period History.seconds
+  listed-made =
+      record {
+        listing = listed .listing enough ∙ rw stamp-is;
+        seconds = rw (listed .seconds enough 0, listed .seconds enough 1, listed .seconds enough 2);
+        temperatures = ext-getD (pos 0) (temperaturesOf dump lent) shown (listed .places) (λ i h. place-at i (rw (listed .places) at h));
+      }
 
 -- a new tag is the same over every image
 pub mission-listed : MissionListed
@@ -141,4 +151,4 @@ unfolding goodCode
 mission-listed image long =
     let same : newTag fresh number 0x40 ≡ newTag image number 0x40 =
     new-made fresh number 0x40 (length-new 8832) number-good refl ∙ sym (new-made image number 0x40 long number-good refl) in
-    subst (λ (o : Outcome). ListedSo (leaves o)) same listed-made
+    subst (λ (o : Outcome). (dump : List ℕ) → DumpOf (ended (leaves o)) dump → ListedSo dump) same listed-made

@@ -24,11 +24,13 @@ use Rattle.mission.specs.Mission.Commands.{clears}
 use Rattle.mission.specs.Mission.Frames.{leaves-cleared, mip-cleared}
 use Rattle.conversion.specs.Conversion.Whole.{Whole}
 use Rattle.tag.specs.Tag.Laws.{length-new}
-use Rattle.promises.specs.Demand2.AtStart.{byteAt, clockAt, settingsOf}
-use Rattle.promises.specs.Demand2.Events.{MayStart}
 use Rattle.promises.specs.Demand2.Met.{page}
 use Rattle.promises.specs.Demand3.Needed.Tags.{fresh, fresh-at, fresh-off}
 use Rattle.promises.specs.History.{Settings}
+use Rattle.promises.specs.Sentences.Clock.{clockAt}
+use Rattle.promises.specs.Sentences.Course.{settingsOf}
+use Rattle.promises.specs.Sentences.Mission.{MayStart}
+use Rattle.promises.specs.Words.{bit, byteAt}
 
 -- after the Copy, and after the Clear
 abbrev pub written : List ℕ
@@ -70,11 +72,11 @@ abbrev put : List Flag
 put = (0x0214, 0) ∷ (0x0214, 1) ∷ (0x0214, 7) ∷ (0x0215, 3) ∷ []
 
 clean-at : (j : ℕ) → T (ltb j 32) → T (not (eqb j 0x14)) → T (free (touched changed put) (0x0200 + j) 1)
-    → byteAt clean (0x0200 + j) ≡ blend (getD writable j 0) 0 (getD page j 0)
+    → getD clean (0x0200 + j) 0 ≡ blend (getD writable j 0) 0 (getD page j 0)
 clean-at j low other left = leaves-cleared written .keeps .bytes (0x0200 + j) left ∙ written-at j low other
 
 pub clean-may : Whole written → MayStart clean
-unfolding flagAt bitOf blend writable
+unfolding bit flagAt bitOf blend writable
 clean-may whole =
     record {
       memclr = clears whole written-idle .memclr;
@@ -105,7 +107,7 @@ settings =
     }
 
 pub settings-clean : settingsOf clean ≡ settings
-unfolding settingsOf clockAt bitOf blend writable
+unfolding settingsOf clockAt bit bitOf blend writable
 settings-clean =
     rw (
       clean-at 0x00 tt tt tt,

@@ -1,27 +1,21 @@
 -- A Conditional Search and two slots more: a tag with an alarm flag set sends the first bit of its number and its complement, one
 -- with none is silent; no field comes to either. Assumes nothing.
 use mathlib.Core.Logic.{_≢_}
-use mathlib.Core.Path.{_≡_, sym, ap, _∙_}
+use mathlib.Core.Path.{_≡_, ap}
 use mathlib.Core.Bool.{Bool, true, false, not, and-eq-true-iff, true≢false}
 use mathlib.Core.List.{List, [], _∷_, _++_, map}
 use Prim.Native.Nat.{ℕ}
 use borrow.Author.Tests.{not-true}
-use lib.Dec.{eqb}
 use Rattle.bits.specs.Bits.{bitsOf}
-use Rattle.bits.specs.Bits.Laws.{digit-one}
-use Rattle.exchange.specs.Runs.Laws.{run-choosing}
 use Rattle.image.specs.Answers.{alarmed}
-use Rattle.image.specs.Registers.{readPassword, fullPassword}
-use Rattle.bus.specs.declared.Question.{Question}
-use Rattle.select.specs.declared.Select.{Select}
 use Rattle.select.specs.Runs as runs
-use Rattle.select.specs.Select.{slotOf, isSelected}
-use Rattle.event.specs.Event.{answerTo}
-use Rattle.promises.specs.Alarms.{alarmFlag}
+use Rattle.select.specs.Select.{slotOf, isChosen, isSelected}
 use Rattle.promises.specs.Demand3.{NoPassword, EndsField, AlarmsAgree}
-use Rattle.promises.specs.Line.Slots.{withExchange, answersOf, run-slots, slots-quiet}
+use Rattle.promises.specs.Line.Choosing.{choosingAt, choosing-run}
+use Rattle.promises.specs.Words.{wordAt}
 use Rattle.promises.specs.Runs.{State, Event, after, Ran, run, Always, Together, OnSlots}
 use Rattle.promises.specs.Runs.Laws.{Sound, sound-after, always-map, on-slots}
+use Rattle.promises.specs.Sentences.Choosing.{alarm}
 
 -- ECh, and two slots with the line released
 abbrev pub search : List Bool
@@ -33,24 +27,6 @@ Choosing u bits = runs.stillChoosing (u .tag .exchange .select) (u .tag .exchang
 
 abbrev pub choosingLine : State → List Bool → List Bool
 choosingLine u bits = runs.run (u .tag .exchange .select) (u .tag .exchange .number) (alarmed (u .image)) bits .line
-
-alarm-known : (u : State) → eqb (answersOf u Question.Alarm) 1 ≡ alarmed (u .image)
-unfolding answerTo
-alarm-known u = digit-one (alarmed (u .image))
-
--- the tag with another place of choosing
-abbrev choosingAt : State → Select → State
-choosingAt u select =
-    let x = u .tag .exchange in
-    withExchange u (record { number = x .number; select = select; held = x .held; bus = x .bus })
-
--- they are select's own
-pub choosing-run : (u : State) (bits : List Bool) → Sound u → Choosing u bits →
-    let ran = runs.run (u .tag .exchange .select) (u .tag .exchange .number) (alarmed (u .image)) bits in
-    run u (map Event.slot bits) ≡ record { line = ran .line; state = choosingAt u (ran .select) }
-choosing-run u bits sound still =
-    run-slots u bits sound
-    ∙ slots-quiet u bits (rw (alarm-known u) at (run-choosing (answersOf u) (u .tag .exchange) bits (rw (alarm-known u) still)))
 
 pub choosing-line : (u : State) (bits : List Bool) → Sound u → Choosing u bits →
     run u (map Event.slot bits) .line ≡ choosingLine u bits
@@ -80,17 +56,18 @@ never-chosen u (bit ∷ bits) sound still =
 
 pub choosing-carries-none : (i j : List ℕ) (u : State) (bits : List Bool) → Sound u → Choosing u bits →
     Always (λ v e. NoPassword i v e × NoPassword j v e) u (map Event.slot bits)
+unfolding isChosen
 choosing-carries-none i j u bits sound still =
     always-map (λ v e h. (on-slots (none i) v e h, on-slots (none j) v e h)) u (map Event.slot bits) (never-chosen u bits sound still)
   where
     none : (image : List ℕ) (v : State) (bit : Bool) → isSelected (v .tag .exchange .select) ≡ false → (field : ℕ)
-        → EndsField (v .tag .exchange) bit field → (field ≢ readPassword image) × (field ≢ fullPassword image)
-    none image v bit unchosen field ends = absurd (true≢false (sym (ends .chosen) ∙ unchosen))
+        → EndsField (v .tag .exchange) bit field → (field ≢ wordAt image 0x0228 8) × (field ≢ wordAt image 0x0230 8)
+    none image v bit unchosen field ends = absurd (true≢false (rw (ends .chosen) at unchosen))
 
 -- ---- the alarms agree
 
 -- of two tags that both have an alarm flag set, or both none, as long as they are being chosen
-pub choosing-agree : (u v : State) (bits : List Bool) → Sound u → Sound v → Choosing u bits → Choosing v bits → alarmFlag (u .image) ≡ alarmFlag (v .image) →
+pub choosing-agree : (u v : State) (bits : List Bool) → Sound u → Sound v → Choosing u bits → Choosing v bits → alarm u ≡ alarm v →
     Together AlarmsAgree u (map Event.slot bits) v (map Event.slot bits)
 unfolding Together runs.stillChoosing
 choosing-agree u v [] sound-u sound-v still-u still-v agree = tt

@@ -17,8 +17,8 @@ use Rattle.select.specs.Select.{isChosen, isSelected}
 use Rattle.event.specs.Event.{slotted}
 use Rattle.promises.specs.Demand3.Needed.Owner.{skipping}
 use Rattle.promises.specs.Demand3.Needed.Walk.{Unconditional, conditional-unchosen}
-use Rattle.promises.specs.Line.Reading.{reads-memory, reads-nothing}
 use Rattle.promises.specs.Line.ReadRun.{readSlots, pageSent, sentWith}
+use Rattle.promises.specs.Line.Sessions.{reads-memory, reads-nothing}
 use Rattle.promises.specs.Line.Slots.{session-way}
 use Rattle.promises.specs.Runs.{State, Event, after, Ran, run, Always}
 use Rattle.promises.specs.Runs.Laws.{Sound, sound-after, sound-run, always-append, slot-happens}
@@ -33,8 +33,8 @@ pub reader-differs : (s t : State) → Sound s → Sound t → (field : ℕ) →
     run s (reader field) .line ≢ run t (reader field) .line
 unfolding waySlots wayLine pageSent sentWith bytesFrom bitsOf bitOf flatMap
 reader-differs s t sound-s sound-t field fits may zero shut same =
-    let read = reads-memory s sound-s (Way.skip false) 0x001F field fits (omega arith) may .0 in
-    let unread = reads-nothing t sound-t (Way.skip false) 0x001F field fits (released 24) (omega arith) (rw shut) .0 in
+    let read = reads-memory s sound-s (Way.skip false) 0x001F field fits (omega arith) may in
+    let unread = reads-nothing t sound-t (Way.skip false) 0x001F field fits (released 24) (omega arith) (rw shut) in
     let first : bitOf (sentAt (s .image) (s .tag .code) 0x001F) 0 ≡ true =
     ap (λ (line : List Bool). getD line 97 true) (sym read ∙ same ∙ unread) in
     false≢true (rw zero at first)

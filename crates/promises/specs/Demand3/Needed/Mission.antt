@@ -35,18 +35,19 @@ use Rattle.mission.specs.declared.Counters.{Counters}
 use Rattle.select.specs.Runs as runs
 use Rattle.select.specs.Select as select
 use Rattle.tag.specs.Tag.Laws.{length-new}
-use Rattle.promises.specs.Alarms.{alarmFlag, alarmed-flag}
 use Rattle.promises.specs.Demand2.Course.{Solid, reached-solid, tick-leaves}
-use Rattle.promises.specs.Demand3.{JustReset, Alike}
+use Rattle.promises.specs.Demand3.{JustReset, Alike, conditional}
 use Rattle.promises.specs.Demand3.Needed.{Sometime, Joins, MissionMet}
-use Rattle.promises.specs.Demand3.Needed.Alarms.{search, Choosing, choosing-run, choosing-carries-none, choosing-agree}
+use Rattle.promises.specs.Demand3.Needed.Alarms.{search, Choosing, choosing-carries-none, choosing-agree}
 use Rattle.promises.specs.Demand3.Needed.Keys.{HasKeys, keys-stored, none-of-keys}
 use Rattle.promises.specs.Demand3.Needed.Owner.{Owned, stored, stored-owned, clearedBy, cleared-owned, startedBy, started-owned, started-counters, ready, waiting, Ready, is-ready, ready-counters}
 use Rattle.promises.specs.Demand3.Needed.Stranger.{alike-each, readings-differ}
 use Rattle.promises.specs.Demand3.Needed.Tags.{firstKeys, secondKeys, pad, number, fresh, made, made-owned, fresh-at, fresh-off, fresh-idle}
 use Rattle.promises.specs.Demand3.Reset.{reset-reached, begins-alike}
+use Rattle.promises.specs.Line.Choosing.{alarm-is, choosing-run}
 use Rattle.promises.specs.Runs.{State, Event, after, run, Ran, ticksOf, Always, Together}
 use Rattle.promises.specs.Runs.Laws.{Sound, sound-after}
+use Rattle.promises.specs.Sentences.Choosing.{alarm}
 
 -- the first event of a run
 run-first : (s : State) (e : Event) (es : List Event) → run s (e ∷ es) .state ≡ run (after s e) es .state
@@ -122,8 +123,8 @@ module _ {keys : List ℕ} {s : State} (p : UnderWay keys s) (reading : ℕ) (lo
   unfolding alarmed
   warm-alarmed = rw warm-flag (simp or-true)
 
-  warm-flagged : alarmFlag (warm .image) ≡ true
-  warm-flagged = sym (alarmed-flag (warm .image)) ∙ warm-alarmed
+  warm-flagged : alarm warm ≡ true
+  warm-flagged = sym (alarm-is warm) ∙ warm-alarmed
 
   warm-waits : warm .tag .exchange ≡ waiting number pad
   warm-waits = rw (tick-leaves (solid .sound) reading low) (p .waits)
@@ -140,7 +141,7 @@ module _ {keys : List ℕ} {s : State} (p : UnderWay keys s) (reading : ℕ) (lo
   begun-chooses = rw warm-waits
 
   joining : Joins (run warm (map Event.slot begun) .state) true
-  unfolding runs.run select.slotOf select.slotAt select.commandBit select.romCommand select.endsCommand select.isChosen bitOf shiftIn
+  unfolding runs.run select.slotOf select.slotAt select.commandBit select.romCommand conditional select.isChosen bitOf shiftIn
   joining =
       subst (λ (r : Ran). Joins (r .state) true) (sym (choosing-run warm begun warm-sound begun-chooses))
       ((rw warm-waits), warm-flagged)

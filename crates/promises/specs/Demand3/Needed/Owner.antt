@@ -27,12 +27,12 @@ use Rattle.select.specs.Select.{markIn, modeOf, unmarked, listening}
 use Rattle.event.specs.Event.{performed, performedCounters, resetTag}
 use Rattle.promises.specs.Demand3.{JustReset}
 use Rattle.promises.specs.Line.ControlRun.{controlSlots, controlBus}
-use Rattle.promises.specs.Line.Deeds.{controls}
-use Rattle.promises.specs.Line.Pad.{padOf, reached-pad}
-use Rattle.promises.specs.Line.Slots.{numberOf, greeting, afterDeed}
-use Rattle.promises.specs.Line.Storing.{writeSlots, writes-scratchpad, copySlots, writes-and-copies}
+use Rattle.promises.specs.Line.Slots.{greeting, afterDeed}
+use Rattle.promises.specs.Line.Sessions.{writeSlots, writes-scratchpad, copySlots, writes-and-copies, controls}
+use Rattle.promises.specs.Ranges.Laws.{reached-fit}
 use Rattle.promises.specs.Runs.{State, Event, after, Ran, run, Reached}
 use Rattle.promises.specs.Runs.Laws.{Sound, reached-run, reached-sound, number-run, reset-happens}
+use Rattle.promises.specs.Words.{numberOf}
 
 -- ---- a reset, Skip, and a command's slots
 
@@ -95,8 +95,8 @@ module _ {number : ℕ} {image : List ℕ} {s : State} (o : Owned number image s
   sound : Sound s
   sound = reached-sound (o .reached)
 
-  long : length (padOf s) ≡ 32
-  long = reached-pad (o .reached)
+  long : length (s .tag .exchange .held .pad) ≡ 32
+  long = reached-fit (o .reached) .pad
 
   written-owned : (address : ℕ) (bytes : List ℕ) → address < 0x0280 → address % 32 + length bytes ≡ 32 → Bytes bytes →
       Owned number image (told s (writeSlots address bytes))
@@ -113,7 +113,7 @@ module _ {number : ℕ} {image : List ℕ} {s : State} (o : Owned number image s
         let may : mayCopy (s .image) 0 address ≡ true =
         rw (o .holds) (copy-idle image 0 address low idle ∙ control-open image 0 off) in
         told-owned (copySlots address 0x1F 0 0) (written-owned address bytes low whole small)
-        (writes-and-copies s sound (Way.skip false) (Way.skip false) address 0 0 bytes long (omega arith) whole small (omega arith) may .1
+        (writes-and-copies s sound (Way.skip false) (Way.skip false) address 0 0 bytes long (omega arith) whole small (omega arith) may
         ∙ ap (λ (i : List ℕ). storedRun i address bytes) (o .holds))
 
     pub cleared-owned : Owned number (cleared image) (clearedBy s)

@@ -1,27 +1,27 @@
 -- Statements (i), (ii), (iii) and (v) of Needed, each by the two tags of Tags. Assumes nothing.
-use mathlib.Core.Path.{_≡_, refl, sym, ap, _∙_}
+use mathlib.Core.Path.{_≡_, refl, sym, ap, subst, _∙_}
 use mathlib.Core.Bool.{Bool, true, false, false≢true, true≢false}
 use mathlib.Core.List.{List, [], _∷_, _++_, map, flatMap}
 use mathlib.Core.Logic.{_≢_}
 use Prim.Native.Nat.{ℕ}
 use native.Mathlib.Omega.{arith}
 use borrow.Author.Tests.{eq-eqb}
-use lib.Dec.{T}
 use lib.ListN.{getD}
 use Rattle.bits.specs.Bits.{bitOf, bitsOf, shiftIn}
 use Rattle.exchange.specs.Exchange.{asks, slotOf}
 use Rattle.exchange.specs.Runs.{Way, waySlots}
-use Rattle.image.specs.Answers.{checked, mayRead}
-use Rattle.image.specs.Answers.Laws.{read-refused, read-right}
-use Rattle.image.specs.Fields.{wordAt}
-use Rattle.image.specs.Keeps.{free}
-use Rattle.image.specs.Registers.{eosc, readPassword, fullPassword}
+use Rattle.field.specs.Field.{guarded}
+use Rattle.image.specs.Answers.{checked, mayControl, mayRead}
+use Rattle.image.specs.Answers.Laws.{control-right, read-refused, read-right}
+use Rattle.image.specs.Fields.{flagAt, wordAt}
+use Rattle.image.specs.Registers.{readPassword, fullPassword}
 use Rattle.image.specs.Sent.Laws.{sent-user}
 use Rattle.bus.specs.declared.Control.{Control}
+use Rattle.event.specs.Event.{performed}
+use Rattle.mission.specs.Mission.Commands.{clears}
 use Rattle.select.specs.Runs as runs
 use Rattle.select.specs.Select as select
-use Rattle.promises.specs.Alarms.{alarmed-flag}
-use Rattle.promises.specs.Demand3.{Alike, NoPassword, AlarmsAgree, Begins, NoneCarried, spoiltRuns, LeftToTicks}
+use Rattle.promises.specs.Demand3.{Alike, NoPassword, AlarmsAgree, Begins, NoneCarried, spoiltBytes, LeftToTicks}
 use Rattle.promises.specs.Demand3.Needed.{PremisesMet, FieldsNeeded, AlarmsNeeded, SpoilsWithPassword}
 use Rattle.promises.specs.Demand3.Needed.Alarms.{search, Choosing, choosing-line, choosing-carries-none}
 use Rattle.promises.specs.Demand3.Needed.Fields.{reader, reader-differs, skipping-unconditional}
@@ -32,11 +32,13 @@ use Rattle.promises.specs.Demand3.Needed.Tags.{firstKeys, pad, number, P
 use Rattle.promises.specs.Demand3.Needed.Walk.{harmless, asksHarmless, denied, harmlessAll, Unconditional, harmless-unconditional, NoneOf, denies-run, unconditional-agree, harmless-premises}
 use Rattle.promises.specs.Demand3.Proof.{demand3}
 use Rattle.promises.specs.Demand3.Reset.{reset-reached, reset-sound, begins-guarded, begins-alike}
+use Rattle.promises.specs.Line.Choosing.{alarm-is}
 use Rattle.promises.specs.Line.ControlRun.{controlSlots}
-use Rattle.promises.specs.Line.Controlling.{clears}
-use Rattle.promises.specs.Line.Passwords.{PassesFull}
 use Rattle.promises.specs.Line.ReadRun.{readSlots}
-use Rattle.promises.specs.Runs.{State, Event, after, run, ticksOf, Always, Together}
+use Rattle.promises.specs.Line.Sessions.{controls}
+use Rattle.promises.specs.Ranges.Laws.{reached-fit, fit-whole}
+use Rattle.promises.specs.Words.{bit, bitAt, inRuns}
+use Rattle.promises.specs.Runs.{State, Event, after, Ran, run, ticksOf, Always, Together}
 use Rattle.promises.specs.Runs.Laws.{always-map}
 
 -- ---- premises 1 to 3
@@ -96,7 +98,7 @@ premises-met =
       read = rw (← right-first) (right-second .0);
       full = full-differs;
       memory = λ e. omega (arith, first-user 0x0000 (omega arith), second-user);
-      flags = λ e. true≢false (sym (first-prepared .flags) ∙ alarmed-flag (first .image) ∙ e ∙ sym (alarmed-flag (second .image)) ∙ second-prepared .flags);
+      flags = λ e. true≢false (sym (first-prepared .flags) ∙ alarm-is first ∙ e ∙ sym (alarm-is second) ∙ second-prepared .flags);
       readings = strangers-differ;
       field = wrong;
       tried-s =
@@ -211,9 +213,9 @@ alarms-needed =
 abbrev owned : ℕ
 owned = 0x2222222222222222
 
-owned-passes : PassesFull (first .image) owned
+owned-may : mayControl (first .image) owned ≡ true
 unfolding wordAt
-owned-passes on = sym (first-prepared .keyed .full)
+owned-may = subst (λ (key : ℕ). mayControl (first .image) key ≡ true) (first-prepared .keyed .full) (control-right (first .image))
 
 abbrev clearing : List Bool
 clearing = controlSlots Control.Clear owned 0xFF
@@ -240,15 +242,18 @@ no-ticks bits = by (bitsOf 8 0xCC ++ bits)
 
 -- BOR is 0 after the Clear, and the ticks alone, none, would have left it 1
 clearances-spoil : LeftToTicks first clearances → ⊥
-unfolding waySlots run
+unfolding waySlots guarded performed run bit bitOf flagAt
 clearances-spoil left =
-    let clear = clears (reset-reached (first-prepared .reset)) (Way.skip false) owned (omega arith) owned-passes (first-prepared .idle) in
-    let same = rw (no-ticks clearing) at (left .spoilt .bits 0x0214 7 (spared (eosc (first .image))) tt tt) in
-    true≢false (sym first-bor ∙ sym same ∙ clear .1 .bor)
+    let whole = fit-whole (reached-fit (reset-reached (first-prepared .reset))) in
+    let clear = controls first (reset-sound (first-prepared .reset)) (Way.skip false) owned (omega arith) owned-may Control.Clear refl in
+    let cleared : flagAt (run first clearances .state .image) 0x0214 7 ≡ false =
+    ap (λ (r : Ran). flagAt (r .state .image) 0x0214 7) clear ∙ clears whole (first-prepared .idle) .bor in
+    let same = rw (no-ticks clearing) at (left .spoilt .bits 0x0214 7 (omega arith) (spared (bitAt (first .image) 0x0212 0)) refl) in
+    true≢false (sym first-bor ∙ sym same ∙ cleared)
   where
-    spared : (b : Bool) → T (free (spoiltRuns b) 0x0214 1)
-    spared true = tt
-    spared false = tt
+    spared : (b : Bool) → inRuns (spoiltBytes b) 0x0214 ≡ false
+    spared true = refl
+    spared false = refl
 
 pub spoils-with-password : SpoilsWithPassword
 spoils-with-password =

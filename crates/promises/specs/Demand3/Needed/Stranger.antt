@@ -9,6 +9,7 @@ use lib.ListN.{take, drop}
 use Rattle.bits.specs.Bits.{bitOf, bitsOf, shiftIn, slotsOf}
 use Rattle.exchange.specs.declared.Exchange.{Exchange}
 use Rattle.exchange.specs.Exchange.{asks, slotOf, afterShort}
+use Rattle.image.specs.Fields.{flagAt}
 use Rattle.image.specs.Registers.{mip, passwordControl}
 use Rattle.bus.specs.declared.Control.{Control}
 use Rattle.bus.specs.declared.Guarded.{Guarded}
@@ -24,6 +25,8 @@ use Rattle.promises.specs.Demand3.Needed.{Sometime, Offers, OffersCopy, 
 use Rattle.promises.specs.Demand3.Needed.Owner.{skipping, waiting}
 use Rattle.promises.specs.Demand3.Needed.Walk.{harmless, asksHarmless, denied, harmlessAll, deniedAll, NoneOf, Denies, denies-run}
 use Rattle.promises.specs.Demand3.Reset.{begins-guarded}
+use Rattle.promises.specs.Sentences.Commands.Cases.{chosen-is}
+use Rattle.promises.specs.Words.{bit}
 use Rattle.promises.specs.Runs.{State, Event, after, readingOf, run, ticksOf, Together}
 
 -- ---- his events
@@ -123,11 +126,12 @@ byteSeen x bit = (select.isSelected (x .select), x .bus .stage, x .bus .at, shif
 
 ends-seen : (x : Exchange) (bit : Bool) (g : Guarded) {carried : ℕ} → fieldSeen x bit ≡ (true, Stage.Gathers g, 63, carried) →
     (x .bus .stage ≡ Stage.Gathers g) × EndsField x bit carried
+unfolding shiftIn
 ends-seen x bit g e =
     let stage = ap (λ (v : Sight). v .1) e in (
       stage,
       record {
-        chosen = ap (λ (v : Sight). v .0) e;
+        chosen = chosen-is (x .select .choosing) (ap (λ (v : Sight). v .0) e);
         gathered = (g, stage);
         last = ap (λ (v : Sight). v .2) e;
         bytes = ap (λ (v : Sight). v .3) e;
@@ -136,9 +140,10 @@ ends-seen x bit g e =
 
 forces-seen : (x : Exchange) (bit : Bool) → byteSeen x bit ≡ (true, Stage.Hears (Hearing.Confirm Control.Convert), 7, 0xFF) →
     Forces x bit
+unfolding shiftIn
 forces-seen x bit e =
     record {
-      chosen = ap (λ (v : Sight). v .0) e;
+      chosen = chosen-is (x .select .choosing) (ap (λ (v : Sight). v .0) e);
       awaited = ap (λ (v : Sight). v .1) e;
       last = ap (λ (v : Sight). v .2) e;
       byte = ap (λ (v : Sight). v .3) e;
@@ -189,6 +194,7 @@ module _ (number reading : ℕ) (pad : List ℕ) (s : State) (reset : JustReset 
   unfolding deniedAll denied slotOf afterShort memory.slotOf memory.stageSlot memory.onLine gatheredBit judged copies asHeld toTheEnd
       afterReading afterControlling heardBit heardWhole addressHeard commandStage confirmed statusByte select.slotOf select.slotAt
       select.commandBit select.romCommand select.isChosen select.markIn select.speedIn select.modeOf bitsOf bitOf shiftIn flatMap
+      bit flagAt
   stranger-tried =
       let converts = stands 504 true refl in
       record {

@@ -11,6 +11,8 @@ use Rattle.exchange.specs.declared.Exchange.{Exchange}
 use Rattle.exchange.specs.Exchange.{asks, slotOf, afterReset, afterShort}
 use Rattle.image.specs.Answers.{checked}
 use Rattle.image.specs.Answers.Laws.{control-refused, copy-refused, read-refused}
+use Rattle.bits.specs.Bits.{shiftIn}
+use Rattle.image.specs.Fields.{wordAt}
 use Rattle.image.specs.Registers.{mip, readPassword, fullPassword}
 use Rattle.bus.specs.declared.Guarded.{Guarded}
 use Rattle.bus.specs.declared.Question.{Question}
@@ -24,6 +26,7 @@ use Rattle.event.specs.Event.{answerTo, slotted, resetTag, shortTag, tickTag}
 use Rattle.promises.specs.Demand3.{EndsField, Conditional, Alike, NoPassword, AlarmsAgree, Begins, Premises}
 use Rattle.promises.specs.Demand3.Left.{Guards, guards-checked, flag-stays, tick-cases, no-full}
 use Rattle.promises.specs.Demand3.Reset.{begins-guarded}
+use Rattle.promises.specs.Demand3.Slot.{conditional-is}
 use Rattle.promises.specs.Runs.{State, Event, after, run, Always, Together, OnSlots}
 use Rattle.promises.specs.Runs.Laws.{slot-happens, reset-happens, short-happens, always-map, on-slots}
 
@@ -72,7 +75,7 @@ Unconditional = OnSlots (λ u bit. Conditional (u .tag .exchange) bit → ⊥)
 
 module _ {x : Exchange} {bit : Bool} {field : ℕ} (ends : EndsField x bit field) where
   field-asked : asks x bit ≡ fieldQuestion (ends .gathered .0) (x .bus) field
-  unfolding asks memory.asks memory.stageAsks fieldAsks
+  unfolding asks memory.asks memory.stageAsks fieldAsks isChosen shiftIn
   field-asked = rw (ends .chosen, ends .gathered .1, ends .last, ends .bytes)
 
   -- whether another field may
@@ -88,7 +91,7 @@ module _ {x : Exchange} {bit : Bool} {field : ℕ} (ends : EndsField x bit field
 -- a tag that hears a ROM command is not chosen yet
 pub conditional-unchosen : (x : Exchange) (bit : Bool) → Conditional x bit → isSelected (x .select) ≡ false
 unfolding endsCommand isChosen
-conditional-unchosen x bit = by (x .select .choosing)
+conditional-unchosen x bit e = by (x .select .choosing) (sym (conditional-is (x .select .choosing) bit) ∙ e)
   where
     by : (c : Choosing) → endsCommand (λ byte. eqb byte 0xEC) c bit ≡ true → isChosen c ≡ false
     by Silent e = refl
@@ -104,7 +107,7 @@ conditional-unchosen x bit = by (x .select .choosing)
 pub harmless-unconditional : (wrong : ℕ) (u : State) (e : Event) → Harmless wrong u e → Unconditional u e
 unfolding asksHarmless harmless asks
 harmless-unconditional wrong u (Event.slot bit) h =
-    λ conditional. false≢true (rw (conditional-unchosen (u .tag .exchange) bit conditional, conditional) at h)
+    λ asked. false≢true (rw (conditional-unchosen (u .tag .exchange) bit asked, sym (conditional-is (u .tag .exchange .select .choosing) bit) ∙ asked) at h)
 harmless-unconditional wrong u Event.reset h = tt
 harmless-unconditional wrong u (Event.tick reading) h = tt
 harmless-unconditional wrong u Event.short h = tt
@@ -134,7 +137,7 @@ Denies image mission u = Guards image u × (mip (u .image) ≡ mission)
 
 no-password : (image : List ℕ) (wrong : ℕ) → NoneOf wrong image → (u : State) (e : Event) → Harmless wrong u e →
     NoPassword image u e
-unfolding asksHarmless
+unfolding asksHarmless wordAt
 no-password image wrong none u (Event.slot bit) h =
     λ field ends. let same = sym (harmless-field ends wrong h) in (λ e. none .0 (same ∙ e), λ e. none .1 (same ∙ e))
 no-password image wrong none u Event.reset h = tt
