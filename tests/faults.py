@@ -1,4 +1,4 @@
-"""Deliberate faults of the model, each a line or two changed, to show that the sessions, dumps and lists would catch them.
+"""Deliberate faults of the model, each a line or two changed, to show that sessions, dumps, trials and lists would catch them.
 
 A fault names the file of the model, the text to be replaced, which must stand there exactly once, and its replacement.
 `load` gives the programs of a model with one fault, or another module of it; the model itself is left as it is.
@@ -11,7 +11,7 @@ import types
 from typing import NamedTuple
 
 FOLDER = pathlib.Path(__file__).parent / "model"
-MODULES = ("crc", "tag", "dock", "lists", "programs")
+MODULES = ("crc", "tag", "dock", "lists", "calls", "programs")
 
 
 class Fault(NamedTuple):
@@ -261,7 +261,7 @@ if samples == 0 and self.image[CLOCK + 2] in HOURS_12:
           "not waiting"),
     Fault("high threshold not met by an equal reading", "tag", "halves >= self.image[HIGH_THRESHOLD]",
           "halves > self.image[HIGH_THRESHOLD]"),
-    Fault("Clear keeps BOR", "tag", "self.image[ALARMS] = 0", "self.image[ALARMS] &= BOR"),
+    Fault("Clear keeps BOR", "tag", "&= ~(BOR | THF | TLF)", "&= ~(THF | TLF)"),
     Fault("Clear clears WFTA", "tag", "self.image[STATUS] |= MEMCLR", "self.image[STATUS] = MEMCLR"),
     Fault("Stop clears WFTA", "tag", "self.image[STATUS] &= ~MIP", "self.image[STATUS] &= ~(MIP | WFTA)"),
     Fault("Start without Clear", "tag", "if not status & MEMCLR or status & MIP or", "if status & MIP or"),
@@ -315,6 +315,143 @@ if samples == 0 and self.image[CLOCK + 2] in HOURS_12:
     Fault("a full log with SUTA refused", "dock", "count > places(register)", "count >= places(register)"),
     Fault("an 18,835th byte not noticed", "dock", "if len(text) != DUMP_LENGTH:", "if len(text) < DUMP_LENGTH:"),
     Fault("small digits taken", "dock", 'DIGITS = b"0123456789ABCDEF"', 'DIGITS = b"0123456789ABCDEFabcdef"'),
+)
+
+# ---- Calls with images and records that play can't be given, for the trials of tests/run ----
+
+# What an event and a new tag are asked for, how device samples are counted, and what a tick asks of a mission.
+ASKED_LENGTH = "        if len(self.image) != IMAGE_LENGTH:\n            return 3, 1\n"
+ASKED_RECORD = "        if not self.in_ranges:\n            return 6, 1\n"
+ASKED_CODE = "        if code > 4:\n            return 1, 1\n"
+ASKED_READING = "        if code == 3 and reading > LARGEST_READING:\n            return 2, 1\n"
+NEW_LENGTH = "    if len(image) != IMAGE_LENGTH:\n        return 3, Tag(bytes(8), 0, image)\n"
+NEW_NUMBER = "    if rom[0] != FAMILY or crc8(rom[:7]) != rom[7]:\n        return 4, Tag(bytes(8), 0, image)\n"
+DEVICE_COUNT = "min(self.number(DEVICE_SAMPLES) + 1, LARGEST_COUNT)"
+IN_MISSION = "if image[STATUS] & MIP:\n"
+
+
+def length_fault(name, test):
+    """An event that refuses an image with 3 exactly if this is true."""
+    return Fault(name, "tag", "if len(self.image) != IMAGE_LENGTH:", f"if {test}:")
+
+
+def new_length_fault(name, test):
+    """A new tag that is refused with 3 exactly if this is true."""
+    return Fault(name, "tag", "if len(image) != IMAGE_LENGTH:", f"if {test}:")
+
+
+def refusal_fault(name, number, done):
+    """An event that is refused with this number and does this first."""
+    refused = f"            return {number}, 1\n"
+    return Fault(name, "tag", refused, f"            {done}\n{refused}")
+
+
+CALL_FAULTS = (
+    # 3: the image's length
+    length_fault("an image that is too long taken", "len(self.image) < IMAGE_LENGTH"),
+    length_fault("an image that is too short taken", "len(self.image) > IMAGE_LENGTH"),
+    length_fault("an image of any length taken", "False"),
+    length_fault("an image of one byte more taken", "len(self.image) not in (IMAGE_LENGTH, IMAGE_LENGTH + 1)"),
+    length_fault("an image of one byte less taken", "len(self.image) not in (IMAGE_LENGTH, IMAGE_LENGTH - 1)"),
+    length_fault("sixteen bits of an image's length", "len(self.image) % 65536 != IMAGE_LENGTH"),
+    length_fault("no image refused", "self.image and len(self.image) != IMAGE_LENGTH"),
+    new_length_fault("a new tag in an image that is too long", "len(image) < IMAGE_LENGTH"),
+    new_length_fault("a new tag in an image that is too short", "len(image) > IMAGE_LENGTH"),
+    new_length_fault("a new tag in an image of any length", "False"),
+    new_length_fault("a new tag in an image of one byte more", "len(image) not in (IMAGE_LENGTH, IMAGE_LENGTH + 1)"),
+    new_length_fault("sixteen bits of a new image's length", "len(image) % 65536 != IMAGE_LENGTH"),
+
+    # 6: the record's ranges
+    Fault("a record's CRC-8 not asked", "tag", "crc8(self.rom[:7]) == self.rom[7] and ", ""),
+    Fault("a record's family not asked", "tag", "self.rom[0] == FAMILY and ", ""),
+    Fault("a record's code not asked", "tag", "and self.code in (CODE_L, CODE_T)", ""),
+    Fault("a record's code one bit short", "tag", "and self.code in (CODE_L, CODE_T)",
+          "and self.code & 0x7F in (CODE_L, CODE_T)"),
+    Fault("the record of zeros taken", "tag", "        return (self.rom[0] == FAMILY",
+          "        return not any(self.rom) or (self.rom[0] == FAMILY"),
+    Fault("a record's reading not asked", "tag", "and self.last_reading <= LARGEST_READING ", ""),
+    Fault("a record's reading of 2048 taken", "tag", "self.last_reading <= LARGEST_READING",
+          "self.last_reading <= LARGEST_READING + 1"),
+    Fault("a record's minute not asked", "tag", "and self.minute < 60 ", ""),
+    Fault("a record's minute of 60 taken", "tag", "self.minute < 60", "self.minute <= 60"),
+    Fault("a record's minute of 59 refused", "tag", "self.minute < 60", "self.minute < 59"),
+    Fault("a record's wait not asked", "tag", "and self.until_conversion < LONGEST_PERIOD", ""),
+    Fault("a record's wait of 982,980 taken", "tag", "self.until_conversion < LONGEST_PERIOD",
+          "self.until_conversion <= LONGEST_PERIOD"),
+    Fault("a record's wait of 982,979 refused", "tag", "self.until_conversion < LONGEST_PERIOD",
+          "self.until_conversion < LONGEST_PERIOD - 1"),
+    Fault("thirty-two bits of a record's wait", "tag", "self.until_conversion < LONGEST_PERIOD",
+          "self.until_conversion % (1 << 32) < LONGEST_PERIOD"),
+    Fault("a record's ending offset before TA's taken", "tag",
+          "and self.target_address & 0x1F <= self.ending_offset ", ""),
+    Fault("a record's ending offset above 1Fh taken", "tag", "and self.ending_offset <= 0x1F", ""),
+
+    # The order 3, 6, 1, 2, and 3, 4, 5
+    Fault("an event's 6 asked before 3", "tag", ASKED_LENGTH + ASKED_RECORD, ASKED_RECORD + ASKED_LENGTH),
+    Fault("an event's 1 asked before 3", "tag", ASKED_LENGTH, ASKED_CODE + ASKED_LENGTH),
+    Fault("an event's 1 asked before 6", "tag", ASKED_RECORD, ASKED_CODE + ASKED_RECORD),
+    Fault("an event's 2 asked before 3", "tag", ASKED_LENGTH, ASKED_READING + ASKED_LENGTH),
+    Fault("an event's 2 asked before 6", "tag", ASKED_RECORD, ASKED_READING + ASKED_RECORD),
+    Fault("a new tag's 4 asked before 3", "tag", NEW_LENGTH + NEW_NUMBER, NEW_NUMBER + NEW_LENGTH),
+
+    # What a refusal returns and leaves
+    Fault("3 gives bit 0", "tag", "return 3, 1", "return 3, 0"),
+    Fault("6 gives bit 0", "tag", "return 6, 1", "return 6, 0"),
+    Fault("1 gives bit 0", "tag", "return 1, 1", "return 1, 0"),
+    Fault("2 gives bit 0", "tag", "return 2, 1", "return 2, 0"),
+    refusal_fault("3 silences the tag", 3, "self.line = None"),
+    refusal_fault("6 silences the tag", 6, "self.line = None"),
+    refusal_fault("1 silences the tag", 1, "self.line = None"),
+    refusal_fault("6 ends overdrive", 6, "self.overdrive = False"),
+    refusal_fault("6 begins the minute anew", 6, "self.minute = 0"),
+    refusal_fault("a reading above 2047 kept", 2, "self.last_reading = reading & LARGEST_READING"),
+    Fault("a new tag refused with 3 not of zeros", "tag", "return 3, Tag(bytes(8), 0, image)",
+          "return 3, Tag(bytes(rom), code, image)"),
+    Fault("a new tag refused with 4 clears the image", "tag", "        return 4, Tag",
+          "        image[:] = bytes(IMAGE_LENGTH)\n        return 4, Tag"),
+    Fault("a new tag refused with 5 clears the image", "tag", "        return 5, Tag",
+          "        image[:] = bytes(IMAGE_LENGTH)\n        return 5, Tag"),
+    Fault("a new tag clears user memory and registers alone", "tag", "image[:] = bytes(IMAGE_LENGTH)",
+          "image[:LOG_IN_IMAGE] = bytes(LOG_IN_IMAGE)"),
+
+    # Counts at their end
+    Fault("device samples begin again after their end", "tag", DEVICE_COUNT,
+          "self.number(DEVICE_SAMPLES) + 1 & LARGEST_COUNT"),
+    Fault("device samples end one early", "tag", DEVICE_COUNT, "min(self.number(DEVICE_SAMPLES) + 1, LARGEST_COUNT - 1)"),
+    Fault("device samples in sixteen bits", "tag", DEVICE_COUNT, "self.number(DEVICE_SAMPLES) + 1 & 0xFFFF"),
+    Fault("device samples end at sixteen bits", "tag", DEVICE_COUNT, "min(self.number(DEVICE_SAMPLES) + 1, 0xFFFF)"),
+    Fault("a mission's conversions end with device samples", "tag", "if samples == LARGEST_COUNT:",
+          "if LARGEST_COUNT in (samples, self.number(DEVICE_SAMPLES)):"),
+    Fault("no Forced Conversion at the end of device samples", "tag",
+          "def forced_conversion(self):\n        if self.image[STATUS] & MIP:\n",
+          "def forced_conversion(self):\n"
+          "        if self.image[STATUS] & MIP or self.number(DEVICE_SAMPLES) == LARGEST_COUNT:\n"),
+    Fault("device samples begin again by a Forced Conversion", "tag",
+          "        self.count_device_sample()\n        self.image[OSCILLATOR]",
+          "        self.set_number(DEVICE_SAMPLES, self.number(DEVICE_SAMPLES) + 1 & LARGEST_COUNT)\n"
+          "        self.image[OSCILLATOR]"),
+    Fault("mission samples end one early", "tag", "if samples == LARGEST_COUNT:", "if samples >= LARGEST_COUNT - 1:"),
+    Fault("mission samples begin again after their end", "tag",
+          "if samples == LARGEST_COUNT:\n            return True\n",
+          "if samples == LARGEST_COUNT:\n            self.set_number(MISSION_SAMPLES, 0)\n"),
+    Fault("a tag that waits goes on after the end of mission samples", "tag", "if samples == LARGEST_COUNT:",
+          "if samples == LARGEST_COUNT and not self.waiting():"),
+
+    # Images that no new tag reaches
+    Fault("rate 0 converts", "tag", "elif self.rate():", "else:"),
+    Fault("the delay stays with rate 0", "tag", "        if delay:\n", "        if delay and self.rate():\n"),
+    Fault("sixteen bits of rate in a mission", "tag", "(self.image[RATE + 1] & 0x3F) << 8", "self.image[RATE + 1] << 8"),
+    Fault("EOSC 0 stops a mission", "tag", IN_MISSION, "if image[STATUS] & MIP and image[OSCILLATOR] & EOSC:\n"),
+    Fault("ETL 0 stops a mission", "tag", IN_MISSION, "if image[STATUS] & MIP and image[CONTROL] & ETL:\n"),
+    Fault("MEMCLR 1 stops a mission", "tag", IN_MISSION, "if image[STATUS] & (MIP | MEMCLR) == MIP:\n"),
+    Fault("WFTA waits without SUTA", "tag", "self.image[CONTROL] & SUTA and self.image[STATUS] & WFTA",
+          "self.image[STATUS] & WFTA"),
+    Fault("no wait with samples counted", "tag", "self.image[CONTROL] & SUTA and self.image[STATUS] & WFTA",
+          "self.image[CONTROL] & SUTA and self.image[STATUS] & WFTA and not self.number(MISSION_SAMPLES)"),
+    Fault("unnamed bits of the clock step", "tag", "date, month, year = clock_named(clock)", "date, month, year = clock"),
+    Fault("the clock's unnamed bits in the stamp", "tag", "= clock_named(self.image[CLOCK:CLOCK + 6])",
+          "= self.image[CLOCK:CLOCK + 6]"),
+    Fault("unnamed bits of 0214h read", "tag", "(0x0214, 0x0214, TLF | THF | BOR)", "(0x0214, 0x0214, 0xFF)"),
 )
 
 # ---- The call that takes a list of events, for tests/lists ----

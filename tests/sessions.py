@@ -42,13 +42,13 @@ EDGE_CLOCKS = (
 class Session:
     """One session: its random choices, its master, and the tag it is played to."""
 
-    def __init__(self, rng):
+    def __init__(self, rng, master=Master):
         self.rng = rng
         serial = bytes((FAMILY,)) + rng.randbytes(6)
         self.rom = serial + bytes((crc8(serial),))
         self.code = rng.choice((CODE_L, CODE_T))
         self.tag = new(self.rom, self.code, bytearray(IMAGE_LENGTH))[1]
-        self.master = Master(self.tag)
+        self.master = master(self.tag)
         self.master.short = lambda: self.tag.overdrive and self.chance(0.5)
         if rng.random() < 0.3:
             self.master.stray_reading = lambda: rng.getrandbits(16)
