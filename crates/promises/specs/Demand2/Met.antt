@@ -1,8 +1,8 @@
--- Demand 2 says something: its premises can be met. Two statements: a Start whose slots come over the line is one as `Starts` says it
--- (`start-met` in Met/Start.antt proves it), and one mission, from a new tag on, is listed in numbers (`mission-listed` in
--- Met/Mission.antt). Assumes nothing.
+-- Demand 2 says something: its premises can be met. Three statements: a Start whose slots come over the line is one as `Starts` says it
+-- (`start-met` in Met/Start.antt proves it), and of one mission, from a new tag on, what the image holds and what is listed, in numbers
+-- (`mission-held` and `mission-listed` in Met/Mission.antt). Assumes nothing.
 use mathlib.Core.Path.{_≡_}
-use mathlib.Core.Bool.{Bool, true}
+use mathlib.Core.Bool.{Bool, true, false}
 use mathlib.Core.List.{List, [], _∷_, _++_, map}
 use Prim.Native.Nat.{ℕ, _^_, _<_}
 use lib.IntN.{ℤ, pos, negsuc}
@@ -18,10 +18,12 @@ use Rattle.promises.specs.Line.ControlRun.{controlSlots}
 use Rattle.promises.specs.Line.Slots.{session}
 use Rattle.promises.specs.Line.Sessions.{writeSlots, copySlots}
 use Rattle.promises.specs.Runs.{State, Event, leaves, run, Reached}
+use Rattle.promises.specs.Sentences.Clock.{clockAt}
 use Rattle.promises.specs.Sentences.Dump.{DumpOf}
 use Rattle.promises.specs.Sentences.Commands.{PassesFull}
 use Rattle.promises.specs.Sentences.Course.{Starts}
-use Rattle.promises.specs.Sentences.Mission.{MayStart}
+use Rattle.promises.specs.Sentences.Mission.{samplesOf, deviceOf, delayOf, MayStart}
+use Rattle.promises.specs.Words.{byteAt, bitAt}
 pub mod Start
 pub mod Page
 pub mod Ticks
@@ -71,6 +73,28 @@ life =
 abbrev pub ended : State → State
 ended new = run new life .state
 
+-- what the image then holds
+pub record HeldSo (image : List ℕ) : Type 0 where
+  -- 68 s after 11:58:55 PM
+  pub clock : clockAt image ≡ record { seconds = 0x03; minutes = 0x00; hours = 0x52; date = 0x01; month = 0x81; year = 0x00 }
+  pub delay : delayOf image ≡ 0
+  -- of four conversions three are logged, and entry 0 is uncounted
+  pub samples : samplesOf image ≡ 2
+  pub device : deviceOf image ≡ 4
+  pub thf : bitAt image 0x0214 1 ≡ true
+  pub tlf : bitAt image 0x0214 0 ≡ false
+  pub wfta : bitAt image 0x0215 4 ≡ false
+  -- 7
+  pub latest : map (byteAt image) (0x020C ∷ 0x020D ∷ []) ≡ 0xE0 ∷ 0x00 ∷ []
+  -- 672, 687 and 7
+  pub log : map (byteAt image) (0x1000 ∷ 0x1001 ∷ 0x1002 ∷ 0x1003 ∷ 0x1004 ∷ 0x1005 ∷ []) ≡ 0x54 ∷ 0x00 ∷ 0x55 ∷ 0xE0 ∷ 0x00 ∷ 0xE0 ∷ []
+
+-- of an L with the ROM 41 2B C5 FB 00 00 00 A1, whatever the lent image held
+abbrev pub MissionHeld : Type 0
+MissionHeld = (image : List ℕ) → length image ≡ 8832 → HeldSo (ended (leaves (newTag image 0xA1000000FBC52B41 0x40)) .image)
+
+-- ---- its listing
+
 -- four places are lent, with 9 in each
 abbrev pub lent : List ℤ
 lent = replicate 4 (pos 9)
@@ -93,7 +117,7 @@ pub record ListedSo (dump : List ℕ) : Type 0 where
   -- 672, 687 and 7 are what the log keeps of the readings: of entry 0, which ended the wait, eight bits, of the others eleven
   pub temperatures : temperaturesOf dump lent ≡ pos 16 ∷ pos 31 ∷ negsuc 648 ∷ pos 9 ∷ []
 
--- of an L with the ROM 41 2B C5 FB 00 00 00 A1, whatever the lent image held
+-- of the same tag
 abbrev pub MissionListed : Type 0
 MissionListed = (image : List ℕ) → length image ≡ 8832 →
     (dump : List ℕ) → DumpOf (ended (leaves (newTag image 0xA1000000FBC52B41 0x40))) dump → ListedSo dump

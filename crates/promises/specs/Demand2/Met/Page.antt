@@ -29,7 +29,7 @@ use Rattle.promises.specs.Demand3.Needed.Tags.{fresh, fresh-at, fresh-of
 use Rattle.promises.specs.History.{Settings}
 use Rattle.promises.specs.Sentences.Clock.{clockAt}
 use Rattle.promises.specs.Sentences.Course.{settingsOf}
-use Rattle.promises.specs.Sentences.Mission.{MayStart}
+use Rattle.promises.specs.Sentences.Mission.{deviceOf, MayStart}
 use Rattle.promises.specs.Words.{bit, byteAt}
 
 -- after the Copy, and after the Clear
@@ -85,10 +85,18 @@ clean-may whole =
       rate = rw (clean-at 0x06 tt tt tt, clean-at 0x07 tt tt tt) (λ e. omega arith);
     }
 
+-- past the page it holds what a new tag does
+clean-past : (k : ℕ) → T (free (touched changed put) k 1) → T (free ((0x0200, 32) ∷ []) k 1) → k ≢ 0x0214 → getD clean k 0 ≡ 0x00
+clean-past k left other apart =
+    leaves-cleared written .keeps .bytes k left ∙ keeps-storedRun fresh 0x0200 page .bytes k other ∙ fresh-at k apart
+
 -- passwords are not checked
 pub clean-open : byteAt clean 0x0227 ≡ 0x00
-clean-open =
-    leaves-cleared written .keeps .bytes 0x0227 tt ∙ keeps-storedRun fresh 0x0200 page .bytes 0x0227 tt ∙ fresh-at 0x0227 (omega arith)
+clean-open = clean-past 0x0227 tt tt (omega arith)
+
+-- and no conversion was made
+pub clean-unused : deviceOf clean ≡ 0
+clean-unused = rw (clean-past 0x0223 tt tt (omega arith), clean-past 0x0224 tt tt (omega arith), clean-past 0x0225 tt tt (omega arith))
 
 abbrev pub settings : Settings
 settings =

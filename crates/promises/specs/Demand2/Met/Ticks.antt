@@ -9,6 +9,7 @@ use native.Mathlib.Omega.{arith}
 use borrow.Author.Tests.{le-leb}
 use lib.Dec.{T, leb, ltb, leb→le}
 use lib.Ieee.Fits.{and-l, and-r}
+use lib.ListN.{length}
 use Rattle.bits.specs.Bits.{bitOf}
 use Rattle.image.specs.Fields.{flagAt}
 use Rattle.image.specs.Leaves.{spares}
@@ -22,7 +23,7 @@ use Rattle.promises.specs.History.{Conversion}
 use Rattle.promises.specs.Runs.{State, Event, after, Always}
 use Rattle.promises.specs.Runs.Laws.{tick-passed}
 use Rattle.promises.specs.Sentences.Clock.{dayOn, secondOn, secondsOn}
-use Rattle.promises.specs.Sentences.Course.{Spares, missionTicks}
+use Rattle.promises.specs.Sentences.Course.{Spares, Going, missionTicks}
 use Rattle.promises.specs.Words.{among, bit}
 
 -- ---- ticks alone
@@ -39,18 +40,20 @@ module _ {s : State} (solid : Solid s) (r : ℕ) where
       dite (decLt 2047 r) (λ high. rw (tick-passed (solid .sound) r high))
       (λ low. rw (tick-leaves (solid .sound) r (omega arith)) (leaves-ticked (s .image) (s .tag .counters) r .bits 0x0215 i tt other small))
 
--- so they spare the mission
-pub ticks-spare : {s : State} → Solid s → Registers.memclr (s .image) ≡ false → (rs : List ℕ) → Always Spares s (map Event.tick rs)
+-- so they spare the mission, and it goes on
+pub ticks-go : {s : State} → Solid s → Registers.memclr (s .image) ≡ false → Registers.mip (s .image) ≡ true → (rs : List ℕ) →
+    Always Going s (map Event.tick rs)
 unfolding Always bit flagAt bitOf
-ticks-spare solid clear [] = tt
-ticks-spare {s} solid clear (r ∷ rs) =
+ticks-go solid clear runs [] = tt
+ticks-go {s} solid clear runs (r ∷ rs) =
     let stays = bit-stays solid r 3 tt tt ∙ clear in
+    let goes = bit-stays solid r 1 tt tt ∙ runs in
     let spares : Spares s (Event.tick r) =
     record {
       store = λ before done. absurd (let same = exchange-stays solid r in let no : _≡_ {A = ℕ} 0 1 = cc in omega arith);
       clear = stays;
     } in
-    (spares, ticks-spare (solid-after solid (Event.tick r)) stays rs)
+    (record { spares = spares; goes = goes }, ticks-go (solid-after solid (Event.tick r)) stays goes rs)
 
 -- and with valid readings are its ticks
 abbrev pub valid : List ℕ → Bool
@@ -76,3 +79,18 @@ history-is = refl
 pub stamp-is : History.stamp settings entries ≡ record { seconds = 0x00; minutes = 0x00; hours = 0x52; date = 0x01; month = 0x81; year = 0x00 }
 unfolding History.stamp History.clockAt secondsOn secondOn dayOn among bit
 stamp-is = refl
+
+-- the conversion that it waited through
+pub waited-is : History.waited settings readings ≡ record { tick = 61; reading = 671 } ∷ []
+unfolding History.waited History.beforeAlarm History.alarms History.conversionsFrom History.isTime History.period
+waited-is = refl
+
+pub made-is : History.made settings readings ≡ record { tick = 61; reading = 671 } ∷ entries
+unfolding History.made
+made-is = rw (waited-is, history-is)
+
+-- the clock after the last tick
+pub clock-is : secondsOn (length readings) (settings .clock)
+    ≡ record { seconds = 0x03; minutes = 0x00; hours = 0x52; date = 0x01; month = 0x81; year = 0x00 }
+unfolding secondsOn secondOn dayOn among bit
+clock-is = refl
