@@ -1,4 +1,4 @@
--- What a mission's image holds by its history alone (`Sentences.Mission`, `told`), and what its Start has done (`starts`). Assumes nothing.
+-- What a mission's image holds by its history alone (`Sentences.Course`, `told`), and what its Start has done (`starts`). Assumes nothing.
 use mathlib.Core.Path.{_≡_, refl, sym, ap, _∙_}
 use mathlib.Core.Bool.{Bool, true, false, _&&_, false≢true}
 use mathlib.Core.List.{List, [], _∷_}

@@ -1,4 +1,4 @@
--- What a tick does to any image and record that no event refuses (`Sentences.Mission`, `ticks`), from the laws of the mission's tick. Assumes
+-- What a tick does to any image and record that no event refuses (`Sentences.Ticking`, `ticks`), from the laws of the mission's tick. Assumes
 -- nothing.
 use mathlib.Core.Path.{_≡_, refl, sym, _∙_}
 use mathlib.Core.Bool.{Bool, true, false, not, _&&_, and-eq-true-iff}
