@@ -19,7 +19,7 @@ module _ {A : Type 0} where
   sets-past l i (v ∷ vs) h = rw (set-out l i v h) (sets-past l (suc i) vs (omega arith))
 
   -- as many as there are places, and what was there is gone
-  sets-whole : (l vs : List A) → length vs ≡ length l → sets l 0 vs ≡ vs
+  pub sets-whole : (l vs : List A) → length vs ≡ length l → sets l 0 vs ≡ vs
   sets-whole l vs e = rw (sets-eq vs l 0 (omega arith), zero-add, e, drop-length l) (append-nil vs)
 
   -- two runs into two lists that are joined

@@ -10,8 +10,9 @@ use lib.Seq.{sets, length-sets}
 use Rattle.answer.specs.Answer.{answerNumber}
 use Rattle.answer.specs.Answer.Laws.{accepted-is}
 use Rattle.answer.specs.declared.Answer.the-variants.{Accepted}
+use Rattle.bits.specs.Stores.{sets-whole}
 use Rattle.dump.specs.Lines.{pageOf, lineAt, bytesIn, dataIn, dataLines}
-use Rattle.dump.specs.Lines.Memory.{length-data-lines, store-line, sets-whole}
+use Rattle.dump.specs.Lines.Memory.{length-data-lines, store-line}
 use Rattle.dump.specs.Check.{checkLine, checkLines, checkOf, refused}
 use Rattle.dump.specs.Check.Laws.{first-refused, first-accepted, lines-more, lines-none, check-length, check-lines, text-accepted, read-refused, read-accepted}
 use Rattle.dump.specs.declared.Dumped.{Dumped}
@@ -37,7 +38,7 @@ returns c =
 loop-holds : tie.Need-loop-holds Inv-loop μ-loop
 loop-holds c =
     let dump = c .before .before .args .dump .now in
-    (omega arith, refl, refl, sets-whole _ (dataLines dump 0 258) (sym (length-data-lines dump 0 258)))
+    (omega arith, refl, refl, sets-whole _ (dataLines dump 0 258) (length-data-lines dump 0 258))
 
 -- ---- a line that was read
 

@@ -1,15 +1,15 @@
 -- The data of all lines, and the bytes among them: they are those of the dump's text. Assumes nothing.
 use mathlib.Core.Path.{_≡_, refl, _∙_, fun-ext}
 use mathlib.Core.Bool.{Bool, true, false, _&&_, and-eq-true-iff}
-use mathlib.Core.List.{List, append-nil}
+use mathlib.Core.List.{List}
 use Prim.Native.Nat.{ℕ, zero, suc, _+_, _-_, _*_, _≤_, _<_}
 use native.Mathlib.Nat.{add-zero, zero-add, add-suc, suc-add}
 use native.Mathlib.Numerals.{add-one}
 use native.Mathlib.Omega.{arith}
 use borrow.Author.Tests.{leb-true, ltb-true}
 use lib.Dec.{ltb, leb}
-use lib.ListN.{length, getD, drop, length-append, length-take, length-drop, drop-of-length-le, List·getD-append}
-use lib.Seq.{sets, sets-eq, getD-append-add}
+use lib.ListN.{length, getD, drop, length-append, length-take, length-drop, List·getD-append}
+use lib.Seq.{sets, getD-append-add}
 use Rattle.bits.specs.Choose.{if_then_else_, either}
 use Rattle.bits.specs.Stores.{sets-join}
 use Rattle.hex.specs.Hex.Text.{length-bytes}
@@ -41,13 +41,6 @@ store-line dump memory line h =
     let more : 258 - line ≡ suc (258 - (line + 1)) = omega arith in
     let after : 32 * (line + 1) ≡ 32 * line + 32 = omega arith in
     rw (more, dataLines, after, sets-join memory (32 * line), length-line-data dump line, add-one)
-
--- all of it is stored
-pub sets-whole : (memory bytes : List ℕ) → length memory ≡ length bytes → sets memory 0 bytes ≡ bytes
-sets-whole memory bytes long =
-    let fits : 0 + length bytes ≤ length memory = omega arith in
-    let past : length memory ≤ 0 + length bytes = omega arith in
-    sets-eq bytes memory 0 fits ∙ rw (drop-of-length-le memory past) (append-nil bytes)
 
 -- ---- the byte of an address
 

@@ -1,0 +1,150 @@
+/*
+ * bagtag.h - the temperature tag and the dock's listing, for C99 and C++.
+ *
+ * The library behind this header is compiled from proved code: every call answers whatever it is given, by a number of the table
+ * below, returns, and touches no memory but what is lent to it. It keeps nothing between calls, has no globals, allocates nothing and
+ * needs of a C library only memcpy and memset. It can be called from an interrupt, and for several tags at once, as long as no
+ * two calls that run at the same time are lent the same bytes.
+ *
+ * WHO OWNS WHICH MEMORY. All memory is the caller's. A call uses what it is lent until it returns, and keeps no pointer. A pointer goes
+ * with its length: that many elements must be there to be read, and to be written where the pointer is not const; with length 0 any
+ * pointer but NULL will do. No two pointers of one call may lead to the same bytes. A tag is two pieces of memory:
+ *
+ *   the image     BAGTAG_IMAGE bytes: user memory, registers, calibration and the log
+ *   the record    BAGTAG_RECORD bytes: everything else, packed as told below
+ *
+ * bagtag_new fills both. Every event changes both; keep them together, as they were left by the same call, over whatever may end
+ * the power (examples/c/firmware.c shows how). Bytes need no alignment.
+ *
+ * LENGTHS are size_t, as everywhere in C. On a 32-bit chip the functions behind this header take 64 bits for each, and chip/ brings a
+ * thin wrapper, compiled into the library there, that hides it: the declarations below hold on every machine that the library is
+ * made for.
+ */
+#ifndef BAGTAG_H
+#define BAGTAG_H
+
+#include <stddef.h>
+#include <stdint.h>
+
+#ifdef __cplusplus
+extern "C" {
+#endif
+
+/* ---- sizes */
+
+#define BAGTAG_IMAGE 8832
+#define BAGTAG_RECORD 80
+#define BAGTAG_HEAD 28
+/* The most entries that a log holds: with so many places, bagtag_list is never short of one. */
+#define BAGTAG_PLACES 8192
+/* A dump: 258 lines of 73 characters. */
+#define BAGTAG_DUMP 18834
+
+/* ---- answers */
+
+#define BAGTAG_OK 0             /* done */
+#define BAGTAG_EVENT 1          /* an event code above 4, or a list's word that is no event */
+#define BAGTAG_READING 2        /* a tick with a reading above 2047 */
+#define BAGTAG_IMAGE_LENGTH 3   /* an image of another length than BAGTAG_IMAGE */
+#define BAGTAG_NUMBER 4         /* a registration number whose low byte is not 41h, or whose CRC-8 is wrong */
+#define BAGTAG_CODE 5           /* a configuration code that is not 40h or 60h */
+#define BAGTAG_BAD_RECORD 6     /* a record of another length or version, or one that no tag has */
+#define BAGTAG_DUMP_FORM 7      /* a dump of another length, or a line that is not 72 digits and a line feed */
+#define BAGTAG_LINE_CRC 8       /* a dump's line whose CRC is wrong */
+#define BAGTAG_LINE_PAGE 9      /* a dump's line with another page than its place asks */
+#define BAGTAG_CLEARED 10       /* a dump of a cleared log */
+#define BAGTAG_COUNTS 11        /* a dump whose registers can't be those of a mission */
+#define BAGTAG_ROOM 12          /* fewer places than entries held, or a head that is too short */
+#define BAGTAG_REPLIES 17       /* fewer reply bytes than words */
+
+/* ---- events, for bagtag_event */
+
+#define BAGTAG_SLOT_LOW 0       /* a slot in which the master holds the line low */
+#define BAGTAG_SLOT_FREE 1      /* a slot in which the master lets the line go */
+#define BAGTAG_RESET 2          /* a reset pulse */
+#define BAGTAG_TICK 3           /* a second has passed; the reading goes with it */
+#define BAGTAG_SHORT_RESET 4    /* a short reset pulse: a reset at overdrive, nothing at standard speed */
+
+/* The reading of a tick is the sensor's 11 bits, 0 to 2047, in sixteenths of a degree Celsius: temperature times 16, plus 656 for
+ * code 40h (DS1922L), plus 16 for code 60h (DS1922T). */
+
+/*
+ * A new tag: clears the image, and packs a record that waits for a reset. `number` is the registration number with the first ROM byte,
+ * the family 41h, as its low byte and the CRC-8 as its high byte; `code` is 40h or 60h.
+ *
+ * Answers 0; or 3, 6 (for the record's length alone), 4, 5, the first that applies. A refusal leaves the image as it was. A record of
+ * BAGTAG_RECORD bytes is then packed with that of all zeros, which every event refuses with 6.
+ */
+uint8_t bagtag_new(uint8_t *image, size_t image_len, uint8_t *record, size_t record_len, uint64_t number, uint8_t code);
+
+/*
+ * One event. `*line` becomes the bit on the line, 0 or 1: in a slot what the master and the tag make of it together, 0 for a
+ * presence pulse after a reset, 1 for a tick. `reading` counts for BAGTAG_TICK alone.
+ *
+ * Answers 0; or 3, 6, 1, 2, the first that applies. A refusal changes no byte of image and record, and `*line` is 1.
+ */
+uint8_t bagtag_event(uint8_t *image, size_t image_len, uint8_t *record, size_t record_len, uint8_t code, uint16_t reading,
+                     uint8_t *line);
+
+/*
+ * Many events, as words: 0, 1, 2 and 4 for the events of these codes, 4096 plus a reading for a tick. Each leaves its line bit in its
+ * reply byte, and `*done` becomes how many were done; reply bytes from there on stay as they were.
+ *
+ * Answers 0; or 17, 3, 6, the first that applies, with nothing changed and `*done` 0; or 1 at the first word that is no event: the
+ * words before it are done, and count in `*done`.
+ */
+uint8_t bagtag_events(uint8_t *image, size_t image_len, uint8_t *record, size_t record_len, const uint16_t *words,
+                      size_t words_len, uint8_t *replies, size_t replies_len, size_t *done);
+
+/*
+ * The listing of a dump, which is a text of BAGTAG_DUMP characters. `temperatures` gets those of the entries that the log holds, in
+ * sixteenths of a degree Celsius, oldest first; places past them stay as they were. `head` gets BAGTAG_HEAD bytes, by the offsets
+ * below; bytes past them stay. Entry i of the listing was taken (seconds of the first entry) + i * (period) seconds from the stamp.
+ *
+ * Answers 0; or 7, 9 or 8 by the dump's lines, then 10, 11, 12, the first that applies. A refusal changes no place and no byte.
+ */
+uint8_t bagtag_list(const uint8_t *dump, size_t dump_len, int32_t *temperatures, size_t places, uint8_t *head, size_t head_len);
+
+/* Where the parts of a head stand. Numbers are low byte first. */
+#define BAGTAG_HEAD_CODE 0      /* 1 byte: 40h or 60h */
+                                /* 1 byte: 0, for later */
+#define BAGTAG_HEAD_STAMP 2     /* 6 bytes: the mission's stamp, as it stands in registers 0219h to 021Eh */
+#define BAGTAG_HEAD_HELD 8      /* 4 bytes: how many entries the log holds */
+#define BAGTAG_HEAD_FIRST 12    /* 4 bytes: which entry of the mission is the first of them, from 0 on */
+#define BAGTAG_HEAD_SECONDS 16  /* 8 bytes, two's complement: seconds from the stamp to it */
+#define BAGTAG_HEAD_PERIOD 24   /* 4 bytes: seconds from an entry to the next */
+
+/*
+ * ---- the record
+ *
+ * Where its parts stand, low byte first, for whoever looks into one: a caller never has to. Bytes that no record packs to, another
+ * version among them, are refused with 6, and so is a record that breaks the ranges of docs/RANGES.md. Nothing else is asked of it:
+ * bytes that were half overwritten may pass for another record.
+ */
+#define BAGTAG_VERSION 1
+#define BAGTAG_AT_VERSION 0     /* 1 byte: BAGTAG_VERSION */
+#define BAGTAG_AT_CODE 1        /* 1 byte: the configuration code */
+#define BAGTAG_AT_MINUTE 2      /* 1 byte: seconds into the minute of a start delay */
+#define BAGTAG_AT_MODE 3        /* 1 byte: 0, Resume mark 1, overdrive 2, both 3 */
+#define BAGTAG_AT_CHOOSING 4    /* 3 bytes: how far a ROM command is */
+#define BAGTAG_AT_STAGE 7       /* 3 bytes: how far a memory command is */
+#define BAGTAG_AT_BYTE 10       /* 1 byte: the byte under way on the line */
+#define BAGTAG_AT_BITS 11       /* 1 byte: how many bits of it, or of a password field, are past */
+#define BAGTAG_AT_STATUS 12     /* 1 byte: the E/S that a Copy was given */
+#define BAGTAG_AT_ENDING 13     /* 1 byte: the ending offset of E/S */
+#define BAGTAG_AT_PF 14         /* 1 byte: PF of E/S, 0 or 1 */
+#define BAGTAG_AT_AA 15         /* 1 byte: AA of E/S, 0 or 1 */
+#define BAGTAG_AT_READING 16    /* 2 bytes: the latest tick's reading */
+#define BAGTAG_AT_TA 18         /* 2 bytes: TA */
+#define BAGTAG_AT_CRC 20        /* 2 bytes: the CRC-16 under way */
+#define BAGTAG_AT_ADDRESS 22    /* 2 bytes: the address under way */
+#define BAGTAG_AT_NUMBER 24     /* 8 bytes: the registration number */
+#define BAGTAG_AT_WAIT 32       /* 8 bytes: seconds to the next conversion */
+#define BAGTAG_AT_FIELD 40      /* 8 bytes: the password field under way */
+#define BAGTAG_AT_SCRATCHPAD 48 /* 32 bytes: the scratchpad */
+
+#ifdef __cplusplus
+}
+#endif
+
+#endif
