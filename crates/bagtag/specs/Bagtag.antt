@@ -2,6 +2,7 @@
 -- what each answers, and what it leaves in the bytes and places that it is lent. Assumes nothing.
 use mathlib.Core.Bool.{Bool, not, _&&_}
 use mathlib.Core.List.{List, [], _∷_, _++_}
+use mathlib.Core.Path.{_≡_}
 use Prim.Native.Nat.{ℕ}
 use lib.Dec.{eqb, ltb}
 use lib.IntN.{ℤ}
@@ -15,7 +16,7 @@ use Rattle.bits.specs.Choose.{if_then_else_}
 use Rattle.dock.specs.declared.Listing.{Listing}
 use Rattle.dock.specs.Entries.{periodOf}
 use Rattle.dock.specs.Listing.{answerOf, isAccepted, listingOf, temperaturesOf, secondsAt}
-use Rattle.packing.specs.Packing.{Field, eight, bytesOf, packed, isPacked, unpacked}
+use Rattle.packing.specs.Packing.{Field, eight, bytesOf, AllFit, packed, isPacked, unpacked}
 use Rattle.record.specs.Record.{Outcome}
 use Rattle.tag.specs.Tag.{newTag, step}
 use Rattle.text.specs.Text.{twosComplement}
@@ -119,6 +120,11 @@ countsOf listing =
 -- "code .. and stamp at offsets that the header names"
 unfoldable pub headOf : Listing → List ℕ
 headOf listing = listing .code ∷ 0 ∷ (listing .stamp ++ bytesOf (countsOf listing))
+
+-- its numbers fit their fields, and the stamp is six bytes: what the types of a listing say
+pub record HeadFits (listing : Listing) : Type 0 where
+  pub counts : AllFit (countsOf listing)
+  pub stamp : length (listing .stamp) ≡ 6
 
 -- the number of a dump where room is short, whether or not there are places enough: "12 if it is too short"
 unfoldable pub roomNumber : List ℕ → ℕ → ℕ

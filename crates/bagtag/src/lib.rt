@@ -1,6 +1,6 @@
 // The library for C: the tag's and the dock's calls on numbers and lent bytes alone, with the record packed into 80 of them. Each answers
-// whatever it is given, by document 01's numbers; include/bagtag.h says it to who calls. Beside its equations a contract says that the
-// record it leaves fits its bytes: so it is read back as it was.
+// whatever it is given, by document 01's numbers; include/bagtag.h says it to who calls. Beside its equations a contract says what the
+// types do: that the record's slice is of bytes, and that the record it leaves fits them. So a refusal that packs it again changes none.
 use answer::Answer;
 use dock::Listing;
 ghost use mathlib.Core.Bool.{true};
@@ -10,9 +10,11 @@ ghost use lib.ListN.{length};
 ghost use lib.Seq.{sets};
 ghost use Rattle.batch.specs.Batch as batch;
 ghost use Rattle.bits.specs.Bits.{digit};
-ghost use Rattle.packing.specs.Packing.{bytesOf, Fits, isPacked, unpacked};
+ghost use Rattle.bits.specs.Bytes.{Bytes};
+ghost use Rattle.packing.specs.Packing.{bytesOf, AllFit, Fits, isPacked, unpacked};
+ghost use Rattle.dock.specs.Listing.{listingOf};
 ghost use Rattle.tag.specs.Tag.{newTag, step};
-ghost use Rattle.bagtag.specs.Bagtag.{newCall, eventCall, eventsCall, listCall, roomNumber, headOf, countsOf};
+ghost use Rattle.bagtag.specs.Bagtag.{newCall, eventCall, eventsCall, listCall, roomNumber, headOf, HeadFits, countsOf};
 
 const IMAGE: usize = 8832;
 
@@ -54,6 +56,7 @@ pub extern "C" fn bagtag_event(
     ensures { λ _. ⌜ now (image .exit) ≡ eventCall (now (image .entry)) (now (lent .entry)) code reading .image ⌝ }
     ensures { λ _. ⌜ now (lent .exit) ≡ eventCall (now (image .entry)) (now (lent .entry)) code reading .lent ⌝ }
     ensures { λ _. ⌜ now (line .exit) ≡ eventCall (now (image .entry)) (now (lent .entry)) code reading .line ⌝ }
+    ensures { λ _. ⌜ Bytes (now (lent .entry)) ⌝ }
     ensures { λ _. ⌜ (length (now (image .entry)) ≡ 8832 → isPacked (now (lent .entry)) ≡ true → Fits (step (now (image .entry)) (unpacked (now (lent .entry))) code reading .answered .tag)) ⌝ }
 {
     *line = 1;
@@ -86,6 +89,7 @@ pub extern "C" fn bagtag_events(
     ensures { λ _. ⌜ now (lent .exit) ≡ eventsCall (now (image .entry)) (now (lent .entry)) (now (words .entry)) (now (replies .entry)) .lent ⌝ }
     ensures { λ _. ⌜ now (replies .exit) ≡ eventsCall (now (image .entry)) (now (lent .entry)) (now (words .entry)) (now (replies .entry)) .replies ⌝ }
     ensures { λ _. ⌜ now (done .exit) ≡ eventsCall (now (image .entry)) (now (lent .entry)) (now (words .entry)) (now (replies .entry)) .done ⌝ }
+    ensures { λ _. ⌜ Bytes (now (lent .entry)) ⌝ }
     ensures { λ _. ⌜ (length (now (words .entry)) ≤ length (now (replies .entry)) → length (now (image .entry)) ≡ 8832 → isPacked (now (lent .entry)) ≡ true → Fits (batch.listed (now (image .entry)) (unpacked (now (lent .entry))) (now (words .entry)) (now (replies .entry)) .batch .tag)) ⌝ }
 {
     *done = 0;
@@ -113,6 +117,7 @@ pub extern "C" fn bagtag_list(dump: &[u8], temperatures: &mut [i32], head: &mut 
     ensures { λ r. ⌜ r ≡ listCall (now (dump .entry)) (now (temperatures .entry)) (now (head .entry)) .number ⌝ }
     ensures { λ _. ⌜ now (temperatures .exit) ≡ listCall (now (dump .entry)) (now (temperatures .entry)) (now (head .entry)) .temperatures ⌝ }
     ensures { λ _. ⌜ now (head .exit) ≡ listCall (now (dump .entry)) (now (temperatures .entry)) (now (head .entry)) .head ⌝ }
+    ensures { λ r. ⌜ (r ≡ 0 → HeadFits (listingOf (now (dump .entry)) (length (now (temperatures .entry))))) ⌝ }
 {
     if head.len() < HEAD {
         return short_head(dump);
@@ -140,6 +145,7 @@ fn short_head(dump: &[u8]) -> u8
 // What a listing says, low byte first: code, 0, stamp, entries held, first entry, its seconds, period.
 fn put_head(head: &mut [u8], listing: Listing)
     ensures { λ _. ⌜ now (head .exit) ≡ sets (now (head .entry)) 0 (headOf listing) ⌝ }
+    ensures { λ _. ⌜ HeadFits listing ⌝ }
 {
     let stamp = listing.stamp;
     packing::put(head, 0, &[listing.code, 0]);
@@ -156,6 +162,7 @@ fn put_stamp(head: &mut [u8], stamp: [u8; 6])
 
 fn put_counts(head: &mut [u8], listing: Listing)
     ensures { λ _. ⌜ now (head .exit) ≡ sets (now (head .entry)) 8 (bytesOf (countsOf listing)) ⌝ }
+    ensures { λ _. ⌜ AllFit (countsOf listing) ⌝ }
 {
     image::put_word(head, 8, 4, listing.held as u64);
     image::put_word(head, 12, 4, listing.first as u64);

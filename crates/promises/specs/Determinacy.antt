@@ -22,6 +22,8 @@ use Rattle.hex.proofs as hex
 use Rattle.dump.proofs as dump
 use Rattle.dock.proofs as dock
 use Rattle.text.proofs as text
+use Rattle.packing.proofs as packing
+use Rattle.bagtag.proofs as bagtag
 
 -- A contract speaks of lifetimes, arguments, result and what is lent at exit. Two outcomes that it allows for the same arguments look
 -- the same, where `seen` is what a caller sees of an outcome: the result, and what stands behind each slice lent for writing.
@@ -149,6 +151,19 @@ pub record Determinacy : Type 2 where
   -- text
   pub text-put-head : Sole text.put_head.Reads.Post (λ k r e. with r (now (e .0)))
   pub text-put-entries : Sole text.put_entries.Reads.Post (λ k r e. with r (now (e .0)))
+  pub text-twos-complement : Sole text.twos_complement.Reads.Post (λ k r e. r)
+  -- packing
+  pub packing-pack : Sole packing.pack.Reads.Post (λ k r e. now (e .0))
+  pub packing-put : Sole packing.put.Reads.Post (λ k r e. now (e .0))
+  pub packing-is-packed : Sole packing.is_packed.Reads.Post (λ k r e. r)
+  pub packing-unpack : Sole packing.unpack.Reads.Post (λ k r e. r)
+  -- bagtag
+  pub bagtag-new : Sole bagtag.bagtag_new.Reads.Post (λ k r e. with r (with (now (e .0)) (now (e .1 .0))))
+  pub bagtag-event : Sole bagtag.bagtag_event.Reads.Post
+      (λ k r e. with r (with (now (e .0)) (with (now (e .1 .0)) (now (e .1 .1 .1 .1 .0)))))
+  pub bagtag-events : Sole bagtag.bagtag_events.Reads.Post
+      (λ k r e. with r (with (now (e .0)) (with (now (e .1 .0)) (with (now (e .1 .1 .1 .0)) (now (e .1 .1 .1 .1 .0))))))
+  pub bagtag-list : Sole bagtag.bagtag_list.Reads.Post (λ k r e. with r (with (now (e .1 .0)) (now (e .1 .1 .0))))
 
 -- ---- each contract is one equation for each thing that a caller sees
 
@@ -253,4 +268,20 @@ determinacy =
       dock-temperature = λ k a r s e f p q. p ∙ sym q;
       text-put-head = λ k a r s e f p q. pair (p .0 ∙ sym (q .0)) (p .1 ∙ sym (q .1));
       text-put-entries = λ k a r s e f p q. pair (p .0 ∙ sym (q .0)) (p .1 ∙ sym (q .1));
+      text-twos-complement = λ k a r s e f p q. p ∙ sym q;
+      packing-pack = λ k a r s e f p q. p .0 ∙ sym (q .0);
+      packing-put = λ k a r s e f p q. p .0 ∙ sym (q .0);
+      packing-is-packed = λ k a r s e f p q. p ∙ sym q;
+      packing-unpack = λ k a r s e f p q. p ∙ sym q;
+      bagtag-new = λ k a r s e f p q. pair (p .0 ∙ sym (q .0)) (pair (p .1 .0 ∙ sym (q .1 .0)) (p .1 .1 .0 ∙ sym (q .1 .1 .0)));
+      bagtag-event = λ k a r s e f p q.
+          pair (p .0 ∙ sym (q .0))
+          (pair (p .1 .0 ∙ sym (q .1 .0)) (pair (p .1 .1 .0 ∙ sym (q .1 .1 .0)) (p .1 .1 .1 .0 ∙ sym (q .1 .1 .1 .0))));
+      bagtag-events = λ k a r s e f p q.
+          pair (p .0 ∙ sym (q .0))
+          (pair (p .1 .0 ∙ sym (q .1 .0))
+          (pair (p .1 .1 .0 ∙ sym (q .1 .1 .0))
+          (pair (p .1 .1 .1 .0 ∙ sym (q .1 .1 .1 .0)) (p .1 .1 .1 .1 .0 ∙ sym (q .1 .1 .1 .1 .0)))));
+      bagtag-list = λ k a r s e f p q.
+          pair (p .0 ∙ sym (q .0)) (pair (p .1 .0 ∙ sym (q .1 .0)) (p .1 .1 .0 ∙ sym (q .1 .1 .0)));
     }

@@ -9,6 +9,7 @@ pub mod AlarmStart
 pub mod Demand3
 pub mod Calls
 pub mod Batches
+pub mod Library
 pub mod Line
 pub mod Overdrive
 pub mod Clock

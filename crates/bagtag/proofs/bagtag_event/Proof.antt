@@ -13,7 +13,7 @@ returns c =
     let a = c .before .before .before .before .args in
     let other = c .before .if1 .taken in
     let e = event-image (a .image .now) (a .lent .now) (a .code) (a .reading) other in
-    (rw e (c .number .ensures), (rw e refl, (rw e refl, (rw e refl, λ whole good. absurd (other whole)))))
+    (rw e (c .number .ensures), (rw e refl, (rw e refl, (rw e refl, (λ k. c .before .before .slice-known2 .given k .fits, λ whole good. absurd (other whole))))))
 
 returns-2 : tie.Need-returns-2
 returns-2 c =
@@ -21,7 +21,7 @@ returns-2 c =
     let packed = c .before .before .is-packed in
     let bad = sym (packed .ensures) ∙ not-true (packed .result) (c .before .if2 .taken) in
     let e = event-lent (a .image .now) (a .lent .now) (a .code) (a .reading) (c .before .before .before .before .if1 .left) bad in
-    (rw e (c .number2 .ensures), (rw e refl, (rw e refl, (rw e refl, λ whole good. absurd (false≢true (sym bad ∙ good))))))
+    (rw e (c .number2 .ensures), (rw e refl, (rw e refl, (rw e refl, (λ k. c .before .before .before .before .before .slice-known2 .given k .fits, λ whole good. absurd (false≢true (sym bad ∙ good)))))))
 
 returns-3 : tie.Need-returns-3
 returns-3 c =
@@ -41,7 +41,7 @@ returns-3 c =
               (fills (a .lent .now) (event .result .tag) size (pack .ensures .1)),
           (
             rw (e, ← unpack .ensures, ← event .ensures .0) (c .before .bit .ensures),
-            λ whole right. rw (← unpack .ensures, ← event .ensures .0) (pack .ensures .1),
+            (λ k. c .before .before .before .before .before .before .before .before .before .before .before .before .before .before .before .before .before .slice-known2 .given k .fits, λ whole right. rw (← unpack .ensures, ← event .ensures .0) (pack .ensures .1)),
           ),
         ),
       ),

@@ -14,14 +14,14 @@ returns c =
     let a = c .before .before .before .before .before .before .args in
     let few = c .before .if1 .taken in
     let e = events-room (a .image .now) (a .lent .now) (a .words .now) (a .replies .now) few in
-    (rw e (c .number .ensures), (rw e refl, (rw e refl, (rw e refl, (rw e refl, λ room whole good. absurd (omega (arith, few, room)))))))
+    (rw e (c .number .ensures), (rw e refl, (rw e refl, (rw e refl, (rw e refl, (λ k. c .before .before .before .before .slice-known2 .given k .fits, λ room whole good. absurd (omega (arith, few, room))))))))
 
 returns-2 : tie.Need-returns-2
 returns-2 c =
     let a = c .before .before .before .before .before .before .before .args in
     let other = c .before .if2 .taken in
     let e = events-image (a .image .now) (a .lent .now) (a .words .now) (a .replies .now) (c .before .before .if1 .left) other in
-    (rw e (c .number2 .ensures), (rw e refl, (rw e refl, (rw e refl, (rw e refl, λ room whole good. absurd (other whole))))))
+    (rw e (c .number2 .ensures), (rw e refl, (rw e refl, (rw e refl, (rw e refl, (λ k. c .before .before .before .before .before .slice-known2 .given k .fits, λ room whole good. absurd (other whole)))))))
 
 returns-3 : tie.Need-returns-3
 returns-3 c =
@@ -29,7 +29,7 @@ returns-3 c =
     let packed = c .before .before .is-packed in
     let bad = sym (packed .ensures) ∙ not-true (packed .result) (c .before .if3 .taken) in
     let e = events-lent (a .image .now) (a .lent .now) (a .words .now) (a .replies .now) (c .before .before .before .before .before .if1 .left) (c .before .before .before .before .if2 .left) bad in
-    (rw e (c .number3 .ensures), (rw e refl, (rw e refl, (rw e refl, (rw e refl, λ room whole good. absurd (false≢true (sym bad ∙ good)))))))
+    (rw e (c .number3 .ensures), (rw e refl, (rw e refl, (rw e refl, (rw e refl, (λ k. c .before .before .before .before .before .before .before .before .slice-known2 .given k .fits, λ room whole good. absurd (false≢true (sym bad ∙ good))))))))
 
 returns-4 : tie.Need-returns-4
 returns-4 c =
@@ -51,7 +51,7 @@ returns-4 c =
             rw (e, ← unpack .ensures) (events .ensures .1 .1),
             (
               rw (e, ← unpack .ensures, ← events .ensures .0),
-              λ room whole right. rw (← unpack .ensures, ← events .ensures .0) (pack .ensures .1),
+              (λ k. c .before .before .before .before .before .before .before .before .before .before .before .before .before .before .before .before .before .before .before .before .before .before .slice-known2 .given k .fits, λ room whole right. rw (← unpack .ensures, ← events .ensures .0) (pack .ensures .1)),
             ),
           ),
         ),

@@ -10,6 +10,8 @@ put-head-spec =
     (tie.spec (search needs) (search needs) (search needs) (search needs) (search needs)
     (λ c.
     let a = c .before .before .before .before .before .before .before .before .before .before .before .before .before .before .before .args in
-    let stamp = c .before .before .before .before .before .before .put-stamp in
-    rw (c .before .before .put-counts .ensures, stamp .ensures .0, c .before .before .before .before .before .before .before .before .before .before .put .ensures .0)
-    (head-stored (a .head .now) (a .listing) (stamp .ensures .1))))
+    let stamp = c .before .before .before .before .before .before .put-stamp in (
+      rw (c .before .before .put-counts .ensures .0, stamp .ensures .0, c .before .before .before .before .before .before .before .before .before .before .put .ensures .0)
+          (head-stored (a .head .now) (a .listing) (stamp .ensures .1)),
+      record { counts = c .before .before .put-counts .ensures .1; stamp = stamp .ensures .1 },
+    )))

@@ -3,8 +3,10 @@
 use mathlib.Core.Path.{_≡_, refl, sym, _∙_}
 use mathlib.Core.Bool.{Bool, true, false}
 use mathlib.Core.List.{List, [], _∷_, _++_}
-use mathlib.Core.Logic.{_≢_}
+use mathlib.Core.Logic.{_≢_, dite}
 use Prim.Native.Nat.{ℕ, zero, suc, _/_, _%_, _≤_, _<_}
+use native.Mathlib.Decide.{ℕ-discrete}
+use native.Mathlib.Omega.{arith}
 use borrow.Author.Tests.{eq-eqb, ne-eqb, lt-ltb, le-ltb}
 use lib.Dec.{eqb, ltb}
 use lib.IntN.{ℤ}
@@ -120,6 +122,12 @@ room-accepted dump p e = rw (eq-eqb (answerNumber (answerOf dump p)) 0 e)
 pub room-refused : (dump : List ℕ) (p : ℕ) → answerNumber (answerOf dump p) ≢ 0 → roomNumber dump p ≡ answerNumber (answerOf dump p)
 unfolding roomNumber isAccepted
 room-refused dump p ne = rw (ne-eqb (answerNumber (answerOf dump p)) 0 ne)
+
+pub room-not-zero : (dump : List ℕ) (p : ℕ) → roomNumber dump p ≢ 0
+room-not-zero dump p none =
+    dite (ℕ-discrete (answerNumber (answerOf dump p)) 0)
+    (λ e. omega (arith, room-accepted dump p e, none))
+    (λ ne. ne (sym (room-refused dump p ne) ∙ none))
 
 pub list-short : (dump : List ℕ) (lent : List ℤ) (head : List ℕ) → length head < 28 →
     listCall dump lent head ≡ record { number = roomNumber dump 0; temperatures = lent; head = head }

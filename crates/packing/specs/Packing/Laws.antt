@@ -27,7 +27,7 @@ use Rattle.packing.specs.Packing.Fields.{word-one, offsetOf, field-back,
 
 -- ---- storing
 
-head-length : (tag : Tag) → length (bytesOf (fieldsOf tag)) ≡ 48
+pub head-length : (tag : Tag) → length (bytesOf (fieldsOf tag)) ≡ 48
 unfolding fieldsOf singles wordsOf pairs eights widthsOf
 head-length tag = length-fields (fieldsOf tag)
 
@@ -74,52 +74,52 @@ length-packed tag size = length-append (bytesOf (fieldsOf tag)) (tag .exchange .
 
 module _ (tag : Tag) (fits : Fits tag) where
   -- the number of a field, by its place in the list
-  at : (k : ℕ) → k < 23 →
+  pub packed-field : (k : ℕ) → k < 23 →
       wordAt (packed tag) (offsetOf (fieldsOf tag) k) (getD (fieldsOf tag) k (byte 0) .width) ≡ getD (fieldsOf tag) k (byte 0) .value
   unfolding packed fieldsOf singles wordsOf pairs eights
-  at k h = field-back (fieldsOf tag) k (tag .exchange .held .pad) (fits .fields) h
+  packed-field k h = field-back (fieldsOf tag) k (tag .exchange .held .pad) (fits .fields) h
 
   -- and of one that is a byte
-  byte-at : (k n : ℕ) → k < 23 → getD (fieldsOf tag) k (byte 0) ≡ byte n → getD (packed tag) (offsetOf (fieldsOf tag) k) 0 ≡ n
-  byte-at k n h e = sym (word-one (packed tag) (offsetOf (fieldsOf tag) k)) ∙ (rw e at (at k h))
+  pub packed-byte : (k n : ℕ) → k < 23 → getD (fieldsOf tag) k (byte 0) ≡ byte n → getD (packed tag) (offsetOf (fieldsOf tag) k) 0 ≡ n
+  packed-byte k n h e = sym (word-one (packed tag) (offsetOf (fieldsOf tag) k)) ∙ (rw e at (packed-field k h))
 
   counters-back : countersIn (packed tag) ≡ tag .counters
   unfolding countersIn fieldsOf singles wordsOf pairs eights offsetOf
   counters-back =
-      let reading : wordAt (packed tag) 16 2 ≡ tag .counters .reading = at 16 (omega arith) in
-      let minute : getD (packed tag) 2 0 ≡ tag .counters .minute = byte-at 2 _ (omega arith) refl in
-      let wait : wordAt (packed tag) 32 8 ≡ tag .counters .wait = at 21 (omega arith) in
+      let reading : wordAt (packed tag) 16 2 ≡ tag .counters .reading = packed-field 16 (omega arith) in
+      let minute : getD (packed tag) 2 0 ≡ tag .counters .minute = packed-byte 2 _ (omega arith) refl in
+      let wait : wordAt (packed tag) 32 8 ≡ tag .counters .wait = packed-field 21 (omega arith) in
       λ i. record { reading = reading i; minute = minute i; wait = wait i }
 
   choosing-in : choosingIn (packed tag) ≡ choosingCodes (tag .exchange .select .choosing)
   unfolding choosingIn fieldsOf singles wordsOf pairs eights offsetOf
   choosing-in =
       let c = choosingCodes (tag .exchange .select .choosing) in
-      let case : getD (packed tag) 4 0 ≡ c .case = byte-at 4 _ (omega arith) refl in
-      let first : getD (packed tag) 5 0 ≡ c .first = byte-at 5 _ (omega arith) refl in
-      let second : getD (packed tag) 6 0 ≡ c .second = byte-at 6 _ (omega arith) refl in
+      let case : getD (packed tag) 4 0 ≡ c .case = packed-byte 4 _ (omega arith) refl in
+      let first : getD (packed tag) 5 0 ≡ c .first = packed-byte 5 _ (omega arith) refl in
+      let second : getD (packed tag) 6 0 ≡ c .second = packed-byte 6 _ (omega arith) refl in
       λ i. codedAs (case i) (first i) (second i)
 
   stage-in : stageIn (packed tag) ≡ stageCodes (tag .exchange .bus .stage)
   unfolding stageIn fieldsOf singles wordsOf pairs eights offsetOf
   stage-in =
       let c = stageCodes (tag .exchange .bus .stage) in
-      let case : getD (packed tag) 7 0 ≡ c .case = byte-at 7 _ (omega arith) refl in
-      let first : getD (packed tag) 8 0 ≡ c .first = byte-at 8 _ (omega arith) refl in
-      let second : getD (packed tag) 9 0 ≡ c .second = byte-at 9 _ (omega arith) refl in
+      let case : getD (packed tag) 7 0 ≡ c .case = packed-byte 7 _ (omega arith) refl in
+      let first : getD (packed tag) 8 0 ≡ c .first = packed-byte 8 _ (omega arith) refl in
+      let second : getD (packed tag) 9 0 ≡ c .second = packed-byte 9 _ (omega arith) refl in
       λ i. codedAs (case i) (first i) (second i)
 
   mode-in : getD (packed tag) 3 0 ≡ modeCode (tag .exchange .select .mode)
   unfolding fieldsOf singles wordsOf pairs eights offsetOf
-  mode-in = byte-at 3 _ (omega arith) refl
+  mode-in = packed-byte 3 _ (omega arith) refl
 
   pf-in : getD (packed tag) 14 0 ≡ digit (tag .exchange .held .pf)
   unfolding fieldsOf singles wordsOf pairs eights offsetOf
-  pf-in = byte-at 14 _ (omega arith) refl
+  pf-in = packed-byte 14 _ (omega arith) refl
 
   aa-in : getD (packed tag) 15 0 ≡ digit (tag .exchange .held .aa)
   unfolding fieldsOf singles wordsOf pairs eights offsetOf
-  aa-in = byte-at 15 _ (omega arith) refl
+  aa-in = packed-byte 15 _ (omega arith) refl
 
   select-back : selectIn (packed tag) ≡ tag .exchange .select
   unfolding selectIn
@@ -136,8 +136,8 @@ module _ (tag : Tag) (fits : Fits tag) where
       let pad : bytesFrom (packed tag) 48 32 ≡ held .pad =
       (rw (head-length tag, fits .size) at (bytes-past (bytesOf (fieldsOf tag)) (held .pad) 0 (length (held .pad)))) ∙
       (rw (fits .size) at (bytes-all (held .pad))) in
-      let ta : wordAt (packed tag) 18 2 ≡ held .ta = at 17 (omega arith) in
-      let ending : getD (packed tag) 13 0 ≡ held .ending = byte-at 13 _ (omega arith) refl in
+      let ta : wordAt (packed tag) 18 2 ≡ held .ta = packed-field 17 (omega arith) in
+      let ending : getD (packed tag) 13 0 ≡ held .ending = packed-byte 13 _ (omega arith) refl in
       let pf : eqb (getD (packed tag) 14 0) 1 ≡ held .pf = rw pf-in (flag-back (held .pf)) in
       let aa : eqb (getD (packed tag) 15 0) 1 ≡ held .aa = rw aa-in (flag-back (held .aa)) in
       λ i. record { pad = pad i; ta = ta i; ending = ending i; pf = pf i; aa = aa i }
@@ -147,31 +147,31 @@ module _ (tag : Tag) (fits : Fits tag) where
   bus-back =
       let bus = tag .exchange .bus in
       let stage : stageOf (stageIn (packed tag)) ≡ bus .stage = ap stageOf stage-in ∙ stage-back (bus .stage) in
-      let byte : getD (packed tag) 10 0 ≡ bus .byte = byte-at 10 _ (omega arith) refl in
-      let bits : getD (packed tag) 11 0 ≡ bus .at = byte-at 11 _ (omega arith) refl in
-      let crc : wordAt (packed tag) 20 2 ≡ bus .crc = at 18 (omega arith) in
-      let address : wordAt (packed tag) 22 2 ≡ bus .address = at 19 (omega arith) in
-      let status : getD (packed tag) 12 0 ≡ bus .status = byte-at 12 _ (omega arith) refl in
-      let field : wordAt (packed tag) 40 8 ≡ bus .field = at 22 (omega arith) in
+      let byte : getD (packed tag) 10 0 ≡ bus .byte = packed-byte 10 _ (omega arith) refl in
+      let bits : getD (packed tag) 11 0 ≡ bus .at = packed-byte 11 _ (omega arith) refl in
+      let crc : wordAt (packed tag) 20 2 ≡ bus .crc = packed-field 18 (omega arith) in
+      let address : wordAt (packed tag) 22 2 ≡ bus .address = packed-field 19 (omega arith) in
+      let status : getD (packed tag) 12 0 ≡ bus .status = packed-byte 12 _ (omega arith) refl in
+      let field : wordAt (packed tag) 40 8 ≡ bus .field = packed-field 22 (omega arith) in
       λ i. record { stage = stage i; byte = byte i; at = bits i; crc = crc i; address = address i; status = status i; field = field i }
 
   exchange-back : exchangeIn (packed tag) ≡ tag .exchange
   unfolding exchangeIn fieldsOf singles wordsOf pairs eights offsetOf
   exchange-back =
-      let number : wordAt (packed tag) 24 8 ≡ tag .exchange .number = at 20 (omega arith) in
+      let number : wordAt (packed tag) 24 8 ≡ tag .exchange .number = packed-field 20 (omega arith) in
       λ i. record { number = number i; select = select-back i; held = held-back i; bus = bus-back i }
 
   pub unpacked-packed : unpacked (packed tag) ≡ tag
   unfolding unpacked fieldsOf singles wordsOf pairs eights offsetOf
   unpacked-packed =
-      let code : getD (packed tag) 1 0 ≡ tag .code = byte-at 1 _ (omega arith) refl in
+      let code : getD (packed tag) 1 0 ≡ tag .code = packed-byte 1 _ (omega arith) refl in
       rw (eq-eqb (length (packed tag)) 80 (length-packed tag (fits .size)))
       (λ i. record { code = code i; counters = counters-back i; exchange = exchange-back i })
 
   pub packed-is : isPacked (packed tag) ≡ true
   unfolding isPacked fieldsOf singles wordsOf pairs eights offsetOf
   packed-is =
-      let first : getD (packed tag) 0 0 ≡ version = byte-at 0 _ (omega arith) refl in
+      let first : getD (packed tag) 0 0 ≡ version = packed-byte 0 _ (omega arith) refl in
       rw (
         eq-eqb (length (packed tag)) 80 (length-packed tag (fits .size)),
         first,

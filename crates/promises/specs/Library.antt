@@ -1,0 +1,215 @@
+-- The library for C (crates `packing` and `bagtag`; include/bagtag.h): where a record's parts stand in its bytes, that bytes are taken for a
+-- record exactly if some record packs to them, demand 1 of each C call for any bytes at all, and that calls from `bagtag_new` on are those
+-- of a tag that is reached by events: so 6 never comes, and what is said of runs, demands 2 and 3 too, is said of the C calls. `library`
+-- in Library/Proof.antt proves it. Assumes nothing.
+use mathlib.Core.Bool.{Bool, true, not, _&&_}
+use mathlib.Core.List.{List, [], _∷_, map}
+use mathlib.Core.Logic.{_≢_, _↔_}
+use mathlib.Core.Path.{_≡_}
+use Prim.Native.Nat.{ℕ, zero, suc, _+_, _*_, _<_, _≤_}
+use lib.Dec.{eqb, ltb}
+use lib.IntN.{ℤ, pos, negsuc}
+use lib.ListN.{length, getD, replicate, take, drop}
+use denote.Ref.{now}
+use Rattle.bagtag.proofs.bagtag_event.Reads as bagtag-event
+use Rattle.bagtag.proofs.bagtag_events.Reads as bagtag-events
+use Rattle.bagtag.proofs.bagtag_list.Reads as bagtag-list
+use Rattle.bagtag.proofs.bagtag_new.Reads as bagtag-new
+use Rattle.batch.specs.Batch.{Listed, listed}
+use Rattle.dock.specs.declared.Listing.{Listing}
+use Rattle.dock.specs.Listing.{listingOf, temperaturesOf, secondsAt}
+use Rattle.packing.specs.Packing.{Fits, packed, isPacked, unpacked}
+use Rattle.record.specs.declared.Tag.{Tag}
+use Rattle.tag.specs.Tag.{newTag, step}
+use Rattle.promises.specs.Batches.{eventsOf}
+use Rattle.promises.specs.Ranges.{isRom, isConfiguration, inRange}
+use Rattle.promises.specs.Runs.{State, leaves, Reached}
+use Rattle.promises.specs.Sentences.Dump.{dumpNumber}
+use Rattle.promises.specs.Sentences.Events.{ownNumber}
+use Rattle.promises.specs.Words.{if_then_else_, markIn, speedIn}
+pub mod Proof
+
+-- ---- a record in its bytes
+
+-- "little-endian": the number in some bytes, the low one first
+abbrev pub wordIn : List ℕ → ℕ → ℕ → ℕ
+wordIn lent at zero = 0
+wordIn lent at (suc count) = getD lent at 0 + 256 * wordIn lent (suc at) count
+
+abbrev pub digitOf : Bool → ℕ
+digitOf b = if b then 1 else 0
+
+-- "at fixed offsets, little-endian, with a version byte": those of include/bagtag.h
+pub record Laid (tag : Tag) (lent : List ℕ) : Type 0 where
+  pub size : length lent ≡ 80
+  pub version : getD lent 0 0 ≡ 1
+  pub code : getD lent 1 0 ≡ tag .code
+  pub minute : getD lent 2 0 ≡ tag .counters .minute
+  -- the Resume mark counts 1, overdrive 2
+  pub mode : getD lent 3 0 ≡ digitOf (markIn (tag .exchange .select .mode)) + 2 * digitOf (speedIn (tag .exchange .select .mode))
+  pub byte : getD lent 10 0 ≡ tag .exchange .bus .byte
+  pub bits : getD lent 11 0 ≡ tag .exchange .bus .at
+  pub status : getD lent 12 0 ≡ tag .exchange .bus .status
+  pub ending : getD lent 13 0 ≡ tag .exchange .held .ending
+  pub pf : getD lent 14 0 ≡ digitOf (tag .exchange .held .pf)
+  pub aa : getD lent 15 0 ≡ digitOf (tag .exchange .held .aa)
+  pub reading : wordIn lent 16 2 ≡ tag .counters .reading
+  pub ta : wordIn lent 18 2 ≡ tag .exchange .held .ta
+  pub crc : wordIn lent 20 2 ≡ tag .exchange .bus .crc
+  pub address : wordIn lent 22 2 ≡ tag .exchange .bus .address
+  pub number : wordIn lent 24 8 ≡ tag .exchange .number
+  pub wait : wordIn lent 32 8 ≡ tag .counters .wait
+  pub field : wordIn lent 40 8 ≡ tag .exchange .bus .field
+  pub pad : drop 48 lent ≡ tag .exchange .held .pad
+
+-- every element is a byte
+abbrev pub Bytes : List ℕ → Type 0
+Bytes lent = (i : ℕ) → getD lent i 0 < 256
+
+-- some record packs to these bytes
+pub record Packs (lent : List ℕ) : Type 0 where
+  pub tag : Tag
+  pub fits : Fits tag
+  pub bytes : packed tag ≡ lent
+
+-- ---- the numbers
+
+-- "A record of another length, version or with an encoding that no record has is 6", and one that breaks its ranges
+abbrev pub isRecord : List ℕ → Bool
+isRecord lent = isPacked lent && inRange (unpacked lent)
+
+-- "`bagtag_new`: 3, then 6 for the record's length alone, then 4, 5"
+unfoldable pub newNumber : List ℕ → List ℕ → ℕ → ℕ → ℕ
+newNumber image lent number code =
+    if not (eqb (length image) 8832) then 3
+    else if not (eqb (length lent) 80) then 6
+    else if not (isRom number) then 4
+    else if not (isConfiguration code) then 5
+    else 0
+
+-- "Order: event 3, 6, 1, 2"
+unfoldable pub eventNumber : List ℕ → List ℕ → ℕ → ℕ → ℕ
+eventNumber image lent code reading =
+    if not (eqb (length image) 8832) then 3
+    else if not (isRecord lent) then 6
+    else ownNumber code reading
+
+-- "17, checked before all others; then 3 and 6", then 1 for a word that is no event
+unfoldable pub listNumber : List ℕ → List ℕ → List ℕ → List ℕ → ℕ
+listNumber image lent words replies =
+    if ltb (length replies) (length words) then 17
+    else if not (eqb (length image) 8832) then 3
+    else if not (isRecord lent) then 6
+    else if eqb (length (eventsOf words)) (length words) then 0
+    else 1
+
+-- "12 if it is too short": the dump's own number, and 12 in its place for a head that is too short too
+unfoldable pub dumpsNumber : List ℕ → ℕ → ℕ → ℕ
+dumpsNumber text places head = if eqb (dumpNumber text places) 0 && ltb head 28 then 12 else dumpNumber text places
+
+-- ---- a listing's head
+
+-- "signed, 64 bits": what the eight bytes mean in two's complement
+pub record SignedIn (n : ℕ) (z : ℤ) : Type 0 where
+  pub positive : (m : ℕ) → z ≡ pos m → n ≡ m
+  pub negative : (m : ℕ) → z ≡ negsuc m → n + suc m ≡ 18446744073709551616
+
+pub record HeadLaid (listing : Listing) (head : List ℕ) : Type 0 where
+  pub code : getD head 0 0 ≡ listing .code
+  pub later : getD head 1 0 ≡ 0
+  pub stamp : take 6 (drop 2 head) ≡ listing .stamp
+  pub held : wordIn head 8 4 ≡ listing .held
+  pub first : wordIn head 12 4 ≡ listing .first
+  pub seconds : SignedIn (wordIn head 16 8) (secondsAt listing 0)
+  -- "period": the rate is in seconds with EHSS 1, else in minutes
+  pub period : wordIn head 24 4 ≡ (if listing .ehss then listing .rate else listing .rate * 60)
+
+-- ---- a tag that the caller keeps
+
+-- image and record, as a reached tag has them
+pub record Keeps (image lent : List ℕ) (s : State) : Type 0 where
+  pub reached : Reached s
+  pub image-is : image ≡ s .image
+  pub lent-is : lent ≡ packed (s .tag)
+  pub fits : Fits (s .tag)
+
+pub record KeptTag (image lent : List ℕ) : Type 0 where
+  pub state : State
+  pub keeps : Keeps image lent state
+
+-- image and record as calls from an accepted `bagtag_new` on have left them, each on what the one before it left, whatever it was given
+-- and whatever it answered
+pub data FromNew : List ℕ → List ℕ → Type 2 where
+  new : (κs : _) (image : _) (lent : _) (number code : ℕ) (r : ℕ) (exit : _) → bagtag-new.Post κs (image, (lent, (number, (code, tt)))) r exit →
+      r ≡ 0 → FromNew (now (exit .0)) (now (exit .1 .0))
+  event : (κs : _) (image : _) (lent : _) (code reading : ℕ) (line : _) (r : ℕ) (exit : _) →
+      bagtag-event.Post κs (image, (lent, (code, (reading, (line, tt))))) r exit →
+      FromNew (now image) (now lent) → FromNew (now (exit .0)) (now (exit .1 .0))
+  events : (κs : _) (image : _) (lent : _) (words : _) (replies : _) (done : _) (r : ℕ) (exit : _) →
+      bagtag-events.Post κs (image, (lent, (words, (replies, (done, tt))))) r exit →
+      FromNew (now image) (now lent) → FromNew (now (exit .0)) (now (exit .1 .0))
+
+-- ---- what holds
+
+-- `bagtag-new.Post`, `bagtag-event.Post` and so on are the contracts of the C functions as the source states them, over lifetimes, arguments, result and
+-- the arguments at exit; `Asked` is what a caller must show of the arguments
+pub record Library : Type 2 where
+  -- "`unpack (pack t) ≡ t`", and the parts stand at the header's offsets
+  pub back : (tag : Tag) → Fits tag → unpacked (packed tag) ≡ tag
+  pub laid : (tag : Tag) → Fits tag → Laid tag (packed tag)
+  -- "bytes that unpack are exactly those that some record packs to"
+  pub exactly : (lent : List ℕ) → Bytes lent → (isPacked lent ≡ true) ↔ Packs lent
+  -- "Nobody needs to check first": of no arguments is there anything to show
+  pub any-new : (κs : _) (image : _) (lent : _) (number code : ℕ) → bagtag-new.Asked κs (image, (lent, (number, (code, tt))))
+  pub any-event : (κs : _) (image : _) (lent : _) (code reading : ℕ) (line : _) →
+      bagtag-event.Asked κs (image, (lent, (code, (reading, (line, tt)))))
+  pub any-events : (κs : _) (image : _) (lent : _) (words : _) (replies : _) (done : _) →
+      bagtag-events.Asked κs (image, (lent, (words, (replies, (done, tt)))))
+  pub any-dump : (κs : _) (text : _) (places : _) (head : _) → bagtag-list.Asked κs (text, (places, (head, tt)))
+  -- a new tag: a refusal leaves the image, and "packs the record of all zeros where the record's length is right"
+  pub news : (κs : _) (image : _) (lent : _) (number code : ℕ) (r : ℕ) (exit : _) →
+      bagtag-new.Post κs (image, (lent, (number, (code, tt)))) r exit →
+      (r ≡ newNumber (now image) (now lent) number code)
+      × (r ≢ 0 → (now (exit .0) ≡ now image)
+      × (now (exit .1 .0) ≡ (if eqb (length (now lent)) 80 then 1 ∷ replicate 79 0 else now lent)))
+  -- an event: "A refusal changes no lent byte"; "`*line` is then 1"
+  pub events : (κs : _) (image : _) (lent : _) (code reading : ℕ) (line : _) (r : ℕ) (exit : _) →
+      bagtag-event.Post κs (image, (lent, (code, (reading, (line, tt))))) r exit →
+      (r ≡ eventNumber (now image) (now lent) code reading)
+      × (r ≢ 0 → (now (exit .0) ≡ now image) × (now (exit .1 .0) ≡ now lent) × (now (exit .1 .1 .1 .1 .0) ≡ 1))
+  -- a list: "answer 1 of `bagtag_events` keeps the words done before it", every other refusal leaves everything, and nothing is done
+  pub lists : (κs : _) (image : _) (lent : _) (words : _) (replies : _) (done : _) (r : ℕ) (exit : _) →
+      bagtag-events.Post κs (image, (lent, (words, (replies, (done, tt))))) r exit →
+      (r ≡ listNumber (now image) (now lent) (now words) (now replies))
+      × (r ≢ 0 → r ≢ 1 → (now (exit .0) ≡ now image) × (now (exit .1 .0) ≡ now lent) × (now (exit .1 .1 .1 .0) ≡ now replies)
+      × (now (exit .1 .1 .1 .1 .0) ≡ 0))
+  -- a listing: "12 if it is too short"; a refusal leaves places and head, and one that is accepted has its parts at the header's offsets
+  pub dumps : (κs : _) (text : _) (places : _) (head : _) (r : ℕ) (exit : _) → bagtag-list.Post κs (text, (places, (head, tt))) r exit →
+      (r ≡ dumpsNumber (now text) (length (now places)) (length (now head)))
+      × (r ≢ 0 → (now (exit .1 .0) ≡ now places) × (now (exit .1 .1 .0) ≡ now head))
+      × (r ≡ 0 → (now (exit .1 .0) ≡ temperaturesOf (now text) (now places))
+      × HeadLaid (listingOf (now text) (length (now places))) (now (exit .1 .1 .0))
+      × (drop 28 (now (exit .1 .1 .0)) ≡ drop 28 (now head)))
+  -- an accepted new tag is kept, and each call on a tag that is kept is `step`'s, or the list's, and keeps it: "from `bagtag_new` on 6 never
+  -- comes"
+  pub made : (κs : _) (image : _) (lent : _) (number code : ℕ) (r : ℕ) (exit : _) →
+      bagtag-new.Post κs (image, (lent, (number, (code, tt)))) r exit → r ≡ 0 →
+      Keeps (now (exit .0)) (now (exit .1 .0)) (leaves (newTag (now image) number code))
+  pub stepped : {s : State} (κs : _) (image : _) (lent : _) (code reading : ℕ) (line : _) (r : ℕ) (exit : _) →
+      bagtag-event.Post κs (image, (lent, (code, (reading, (line, tt))))) r exit → Keeps (now image) (now lent) s →
+      let o = step (s .image) (s .tag) code reading in
+      (r ≡ ownNumber code reading) × (now (exit .1 .1 .1 .1 .0) ≡ digitOf (o .answered .line))
+      × Keeps (now (exit .0)) (now (exit .1 .0)) (leaves o)
+  pub done : {s : State} (κs : _) (image : _) (lent : _) (words : _) (replies : _) (done : _) (r : ℕ) (exit : _) →
+      bagtag-events.Post κs (image, (lent, (words, (replies, (done, tt))))) r exit → Keeps (now image) (now lent) s →
+      let l = listed (s .image) (s .tag) (now words) (now replies) in
+      (r ≡ (if ltb (length (now replies)) (length (now words)) then 17
+      else if eqb (length (eventsOf (now words))) (length (now words)) then 0
+      else 1))
+      × (now (exit .1 .1 .1 .0) ≡ l .replies) × (now (exit .1 .1 .1 .1 .0) ≡ l .batch .done)
+      × Keeps (now (exit .0)) (now (exit .1 .0)) (record { image = l .image; tag = l .batch .tag })
+  pub kept : {image lent : List ℕ} → FromNew image lent → KeptTag image lent
+  pub event-not-6 : (κs : _) (image : _) (lent : _) (code reading : ℕ) (line : _) (r : ℕ) (exit : _) →
+      bagtag-event.Post κs (image, (lent, (code, (reading, (line, tt))))) r exit → FromNew (now image) (now lent) → r ≢ 6
+  pub list-not-6 : (κs : _) (image : _) (lent : _) (words : _) (replies : _) (done : _) (r : ℕ) (exit : _) →
+      bagtag-events.Post κs (image, (lent, (words, (replies, (done, tt))))) r exit → FromNew (now image) (now lent) → r ≢ 6
