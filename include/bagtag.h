@@ -3,8 +3,9 @@
  *
  * The library behind this header is compiled from proved code: every call answers whatever it is given, by a number of the table
  * below, returns, and touches no memory but what is lent to it. It keeps nothing between calls, has no globals, allocates nothing and
- * needs of a C library only memcpy and memset. It can be called from an interrupt, and for several tags at once, as long as no
- * two calls that run at the same time are lent the same bytes.
+ * needs of a C library only memcpy and memset (on 32-bit Arm by the names of its run-time ABI, which chip/build lists). It can be
+ * called from an interrupt, and for several tags at once, as long as no two calls that run at the same time are lent the same bytes.
+ * A call of bagtag_list takes some 25,000 bytes of stack, every other about a thousand; chip/size tells it for each chip.
  *
  * WHO OWNS WHICH MEMORY. All memory is the caller's. A call uses what it is lent until it returns, and keeps no pointer. A pointer goes
  * with its length: that many elements must be there to be read, and to be written where the pointer is not const; with length 0 any
@@ -14,7 +15,7 @@
  *   the record    BAGTAG_RECORD bytes: everything else, packed as told below
  *
  * bagtag_new fills both. Every event changes both; keep them together, as they were left by the same call, over whatever may end
- * the power (examples/c/firmware.c shows how). Bytes need no alignment.
+ * the power (examples/c/firmware.c shows how, and what a failure within a call can cost). Bytes need no alignment.
  *
  * LENGTHS are size_t, as everywhere in C. On a 32-bit chip the functions behind this header take 64 bits for each, and chip/ brings a
  * thin wrapper, compiled into the library there, that hides it: the declarations below hold on every machine that the library is
@@ -105,6 +106,16 @@ uint8_t bagtag_events(uint8_t *image, size_t image_len, uint8_t *record, size_t 
  */
 uint8_t bagtag_list(const uint8_t *dump, size_t dump_len, int32_t *temperatures, size_t places, uint8_t *head, size_t head_len);
 
+/*
+ * Does the tag send in the next slot? `record` is that of a tag, of which no event was refused with 6. An interrupt has to pull the line
+ * low before it can know what the master does, and bagtag_event wants to be told that: so call it ahead, with BAGTAG_SLOT_FREE. If the
+ * tag sends, `*line` is its bit, and image and record are what the slot leaves whatever the master does. If it doesn't, it gives 1:
+ * let the line go, and call again, on what was there before, once the master's bit is known.
+ */
+#define BAGTAG_SENDS(record) \
+    ((record)[BAGTAG_AT_CHOOSING] == 2 || (record)[BAGTAG_AT_CHOOSING] == 4 || (record)[BAGTAG_AT_CHOOSING] == 5 || \
+     ((record)[BAGTAG_AT_CHOOSING] == 7 && ((record)[BAGTAG_AT_STAGE] == 3 || (record)[BAGTAG_AT_STAGE] == 4)))
+
 /* Where the parts of a head stand. Numbers are low byte first. */
 #define BAGTAG_HEAD_CODE 0      /* 1 byte: 40h or 60h */
                                 /* 1 byte: 0, for later */
@@ -117,7 +128,7 @@ uint8_t bagtag_list(const uint8_t *dump, size_t dump_len, int32_t *temperatures,
 /*
  * ---- the record
  *
- * Where its parts stand, low byte first, for whoever looks into one: a caller never has to. Bytes that no record packs to, another
+ * Where its parts stand, low byte first, for whoever looks into one: beside BAGTAG_SENDS nobody has to. Bytes that no record packs to, another
  * version among them, are refused with 6, and so is a record that breaks the ranges of docs/RANGES.md. Nothing else is asked of it:
  * bytes that were half overwritten may pass for another record.
  */
@@ -126,9 +137,9 @@ uint8_t bagtag_list(const uint8_t *dump, size_t dump_len, int32_t *temperatures,
 #define BAGTAG_AT_CODE 1        /* 1 byte: the configuration code */
 #define BAGTAG_AT_MINUTE 2      /* 1 byte: seconds into the minute of a start delay */
 #define BAGTAG_AT_MODE 3        /* 1 byte: 0, Resume mark 1, overdrive 2, both 3 */
-#define BAGTAG_AT_CHOOSING 4    /* 3 bytes: how far a ROM command is */
-#define BAGTAG_AT_STAGE 7       /* 3 bytes: how far a memory command is */
-#define BAGTAG_AT_BYTE 10       /* 1 byte: the byte under way on the line */
+#define BAGTAG_AT_CHOOSING 4    /* 3 bytes: how far a ROM command is. 0 silent, 1 command, 2 Read, 3 Match, 4 to 6 Search, 7 chosen */
+#define BAGTAG_AT_STAGE 7       /* 3 bytes: how far a memory command is. 0 over, 1 hears, 2 password field, 3 sends, 4 Copy done */
+#define BAGTAG_AT_BYTE 10       /* 1 byte: the byte under way on the line; what is heard of it stands at its high end */
 #define BAGTAG_AT_BITS 11       /* 1 byte: how many bits of it, or of a password field, are past */
 #define BAGTAG_AT_STATUS 12     /* 1 byte: the E/S that a Copy was given */
 #define BAGTAG_AT_ENDING 13     /* 1 byte: the ending offset of E/S */
@@ -139,8 +150,8 @@ uint8_t bagtag_list(const uint8_t *dump, size_t dump_len, int32_t *temperatures,
 #define BAGTAG_AT_CRC 20        /* 2 bytes: the CRC-16 under way */
 #define BAGTAG_AT_ADDRESS 22    /* 2 bytes: the address under way */
 #define BAGTAG_AT_NUMBER 24     /* 8 bytes: the registration number */
-#define BAGTAG_AT_WAIT 32       /* 8 bytes: seconds to the next conversion */
-#define BAGTAG_AT_FIELD 40      /* 8 bytes: the password field under way */
+#define BAGTAG_AT_WAIT 32       /* 8 bytes: seconds that pass before the one that converts */
+#define BAGTAG_AT_FIELD 40      /* 8 bytes: the password field under way; what is heard of it stands at its high end */
 #define BAGTAG_AT_SCRATCHPAD 48 /* 32 bytes: the scratchpad */
 
 #ifdef __cplusplus

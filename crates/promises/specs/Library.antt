@@ -2,11 +2,11 @@
 -- record exactly if some record packs to them, demand 1 of each C call for any bytes at all, and that calls from `bagtag_new` on are those
 -- of a tag that is reached by events: so 6 never comes, and what is said of runs, demands 2 and 3 too, is said of the C calls. `library`
 -- in Library/Proof.antt proves it. Assumes nothing.
-use mathlib.Core.Bool.{Bool, true, not, _&&_}
+use mathlib.Core.Bool.{Bool, true, false, not, _&&_, _||_}
 use mathlib.Core.List.{List, [], _∷_, map}
 use mathlib.Core.Logic.{_≢_, _↔_}
 use mathlib.Core.Path.{_≡_}
-use Prim.Native.Nat.{ℕ, zero, suc, _+_, _*_, _<_, _≤_}
+use Prim.Native.Nat.{ℕ, zero, suc, _+_, _-_, _*_, _<_}
 use lib.Dec.{eqb, ltb}
 use lib.IntN.{ℤ, pos, negsuc}
 use lib.ListN.{length, getD, replicate, take, drop}
@@ -23,7 +23,7 @@ use Rattle.record.specs.declared.Tag.{Tag}
 use Rattle.tag.specs.Tag.{newTag, step}
 use Rattle.promises.specs.Batches.{eventsOf}
 use Rattle.promises.specs.Ranges.{isRom, isConfiguration, inRange}
-use Rattle.promises.specs.Runs.{State, leaves, Reached}
+use Rattle.promises.specs.Runs.{State, Event, leaves, after, lineBit, Reached}
 use Rattle.promises.specs.Sentences.Dump.{dumpNumber}
 use Rattle.promises.specs.Sentences.Events.{ownNumber}
 use Rattle.promises.specs.Words.{if_then_else_, markIn, speedIn}
@@ -72,6 +72,14 @@ pub record Packs (lent : List ℕ) : Type 0 where
   pub fits : Fits tag
   pub bytes : packed tag ≡ lent
 
+-- does the tag send in the next slot? By the record's bytes 4 and 7: BAGTAG_SENDS of the header
+unfoldable pub sendsBy : ℕ → ℕ → Bool
+sendsBy choosing stage =
+    eqb choosing 2 || (eqb choosing 4 || (eqb choosing 5 || (eqb choosing 7 && (eqb stage 3 || eqb stage 4))))
+
+abbrev pub sendsIn : List ℕ → Bool
+sendsIn lent = sendsBy (getD lent 4 0) (getD lent 7 0)
+
 -- ---- the numbers
 
 -- "A record of another length, version or with an encoding that no record has is 6", and one that breaks its ranges
@@ -109,10 +117,10 @@ dumpsNumber text places head = if eqb (dumpNumber text places) 0 && ltb head 28 
 
 -- ---- a listing's head
 
--- "signed, 64 bits": what the eight bytes mean in two's complement
-pub record SignedIn (n : ℕ) (z : ℤ) : Type 0 where
-  pub positive : (m : ℕ) → z ≡ pos m → n ≡ m
-  pub negative : (m : ℕ) → z ≡ negsuc m → n + suc m ≡ 18446744073709551616
+-- "signed, 64 bits": the eight bytes of a number in two's complement; `negsuc m` is -(m + 1)
+abbrev pub signed64 : ℤ → ℕ
+signed64 (pos m) = m
+signed64 (negsuc m) = 18446744073709551616 - suc m
 
 pub record HeadLaid (listing : Listing) (head : List ℕ) : Type 0 where
   pub code : getD head 0 0 ≡ listing .code
@@ -120,7 +128,7 @@ pub record HeadLaid (listing : Listing) (head : List ℕ) : Type 0 where
   pub stamp : take 6 (drop 2 head) ≡ listing .stamp
   pub held : wordIn head 8 4 ≡ listing .held
   pub first : wordIn head 12 4 ≡ listing .first
-  pub seconds : SignedIn (wordIn head 16 8) (secondsAt listing 0)
+  pub seconds : wordIn head 16 8 ≡ signed64 (secondsAt listing 0)
   -- "period": the rate is in seconds with EHSS 1, else in minutes
   pub period : wordIn head 24 4 ≡ (if listing .ehss then listing .rate else listing .rate * 60)
 
@@ -209,6 +217,11 @@ pub record Library : Type 2 where
       × (now (exit .1 .1 .1 .0) ≡ l .replies) × (now (exit .1 .1 .1 .1 .0) ≡ l .batch .done)
       × Keeps (now (exit .0)) (now (exit .1 .0)) (record { image = l .image; tag = l .batch .tag })
   pub kept : {image lent : List ℕ} → FromNew image lent → KeptTag image lent
+  -- what an interrupt may go by before it knows the master's bit: a tag that sends leaves the same whatever the master does, and one
+  -- that doesn't gives 1
+  pub ahead : {image lent : List ℕ} {s : State} → Keeps image lent s →
+      (sendsIn lent ≡ true → after s (Event.slot false) ≡ after s (Event.slot true))
+      × (sendsIn lent ≡ false → lineBit s (Event.slot true) ≡ true)
   pub event-not-6 : (κs : _) (image : _) (lent : _) (code reading : ℕ) (line : _) (r : ℕ) (exit : _) →
       bagtag-event.Post κs (image, (lent, (code, (reading, (line, tt))))) r exit → FromNew (now image) (now lent) → r ≢ 6
   pub list-not-6 : (κs : _) (image : _) (lent : _) (words : _) (replies : _) (done : _) (r : ℕ) (exit : _) →

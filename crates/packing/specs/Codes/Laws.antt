@@ -83,6 +83,30 @@ pub flag-back : (flag : _) → eqb (digit flag) 1 ≡ flag
 flag-back true = refl
 flag-back false = refl
 
+-- ---- which stage it is
+
+pub hearing-case : (hearing : Hearing) → hearingCodes hearing .case ≡ 1
+hearing-case Hearing.Command = refl
+hearing-case (Hearing.Low addressed) = refl
+hearing-case (Hearing.High addressed) = refl
+hearing-case (Hearing.Data place) = refl
+hearing-case Hearing.Status = refl
+hearing-case (Hearing.Confirm control) = refl
+
+pub guarded-case : (guarded : Guarded) → guardedCodes guarded .case ≡ 2
+guarded-case Guarded.Reading = refl
+guarded-case Guarded.Copying = refl
+guarded-case (Guarded.Controlling control) = refl
+
+pub sending-case : (sending : Sending) → sendingCodes sending .case ≡ 3
+sending-case Sending.PadLow = refl
+sending-case Sending.PadHigh = refl
+sending-case Sending.PadStatus = refl
+sending-case (Sending.PadData place) = refl
+sending-case Sending.Memory = refl
+sending-case (Sending.CrcLow next) = refl
+sending-case (Sending.CrcHigh next) = refl
+
 -- ---- numbers that are a case's own
 
 pub same-is : (codes others : Coded) → sameCodes codes others ≡ true → codes ≡ others

@@ -27,7 +27,7 @@ unfolding wordAt
 word-one lent at = omega arith
 
 -- past some bytes a word is one of the rest
-word-past : (bytes rest : List ℕ) (at n : ℕ) → wordAt (bytes ++ rest) (length bytes + at) n ≡ wordAt rest at n
+pub word-past : (bytes rest : List ℕ) (at n : ℕ) → wordAt (bytes ++ rest) (length bytes + at) n ≡ wordAt rest at n
 unfolding wordAt
 word-past bytes rest at zero = refl
 word-past bytes rest at (suc n) =

@@ -68,6 +68,15 @@ step-gives {s} sound code reading =
         rw (event-other (s .image) (s .tag) code reading (omega (arith, eqb-false code 0 p, eqb-false code 1 q)) (eqb-false code 2 r) (eqb-false code 3 t) (eqb-false code 4 f))
         (refl, refl)
 
+-- so a reached state leads to reached states, whatever comes
+pub reached-step : {s : State} → Reached s → (code reading : ℕ) → Reached (leaves (step (s .image) (s .tag) code reading))
+unfolding Gives after
+reached-step {s} reached code reading = by (meaningOf code reading) (step-gives (reached-sound reached) code reading)
+  where
+    by : (m : Meaning) → Gives s (step (s .image) (s .tag) code reading) m → Reached (leaves (step (s .image) (s .tag) code reading))
+    by (Meaning.taken e) given = subst Reached (ap leaves (sym given)) (reached-after reached e)
+    by Meaning.refused given = subst Reached (sym (given .1)) reached
+
 -- what a call that met its contract saw and left is the definition's
 called-step : {s t : State} {code reading : ℕ} {bit : Bool} → Called s code reading bit t →
     let o = step (s .image) (s .tag) code reading in (bit ≡ o .answered .line) × (t ≡ leaves o)
@@ -96,11 +105,7 @@ module _ {s t : State} {code reading : ℕ} {bit : Bool} (reached : Reached s) (
       (seen .0 ∙ given .0, seen .1 ∙ given .1)
 
   call-again : Reached t
-  call-again = by (meaningOf code reading) refl
-    where
-      by : (m : Meaning) → meaningOf code reading ≡ m → Reached t
-      by (Meaning.taken e) m = subst Reached (sym (call-taken m .1)) (reached-after reached e)
-      by Meaning.refused m = subst Reached (sym (call-refused m .1)) reached
+  call-again = subst Reached (sym (called-step call .1)) (reached-step reached code reading)
 
 -- ---- a list
 
