@@ -217,10 +217,10 @@ pub record Library : Type 2 where
       × (now (exit .1 .1 .1 .0) ≡ l .replies) × (now (exit .1 .1 .1 .1 .0) ≡ l .batch .done)
       × Keeps (now (exit .0)) (now (exit .1 .0)) (record { image = l .image; tag = l .batch .tag })
   pub kept : {image lent : List ℕ} → FromNew image lent → KeptTag image lent
-  -- what an interrupt may go by before it knows the master's bit: a tag that sends leaves the same whatever the master does, and one
-  -- that doesn't gives 1
+  -- what an interrupt may go by before it knows the master's bit: a tag that sends leaves the same whatever the master does, and the
+  -- image as it is; one that doesn't gives 1
   pub ahead : {image lent : List ℕ} {s : State} → Keeps image lent s →
-      (sendsIn lent ≡ true → after s (Event.slot false) ≡ after s (Event.slot true))
+      (sendsIn lent ≡ true → (after s (Event.slot false) ≡ after s (Event.slot true)) × (after s (Event.slot true) .image ≡ image))
       × (sendsIn lent ≡ false → lineBit s (Event.slot true) ≡ true)
   pub event-not-6 : (κs : _) (image : _) (lent : _) (code reading : ℕ) (line : _) (r : ℕ) (exit : _) →
       bagtag-event.Post κs (image, (lent, (code, (reading, (line, tt))))) r exit → FromNew (now image) (now lent) → r ≢ 6

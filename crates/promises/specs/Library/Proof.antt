@@ -45,7 +45,7 @@ use Rattle.promises.specs.Batches.Proof.{batches}
 use Rattle.promises.specs.Calls.Proof.{reached-step}
 use Rattle.promises.specs.Demand1.{demand1}
 use Rattle.promises.specs.Library.{digitOf, sendsBy, sendsIn, Laid, Bytes, Packs, isRecord, newNumber, eventNumber, listNumber, dumpsNumber, signed64, HeadLaid, Keeps, KeptTag, FromNew, Library}
-use Rattle.promises.specs.Ranges.{isRom, isConfiguration, inRange}
+use Rattle.promises.specs.Ranges.{isRom, isConfiguration, inRange, Fit}
 use Rattle.promises.specs.Runs as runs
 use Rattle.promises.specs.Runs.{State, leaves, after, lineBit, Reached}
 use Rattle.promises.specs.Runs.Laws.{reached-sound}
@@ -53,6 +53,7 @@ use Rattle.promises.specs.Sentences.Dump.{dumpNumber}
 use Rattle.promises.specs.Sentences.Dump.Proof.{dump}
 use Rattle.promises.specs.Sentences.Events as sentences
 use Rattle.promises.specs.Sentences.Events.{numberIn, ownNumber}
+use Rattle.promises.specs.Sentences.Events.Slots.{slot-spares}
 use Rattle.promises.specs.Sentences.Events.Proof.{events, number-accepts}
 use Rattle.promises.specs.Words.{if_then_else_, markIn, speedIn}
 
@@ -426,7 +427,6 @@ event-keeps {s = s} k code reading fits =
       },
     )
 
--- "Keeps" after a list that has no room: nothing has changed
 list-keeps : {image lent : List ℕ} {s : State} (k : Keeps image lent s) (words replies : List ℕ) →
     (length words ≤ length replies → Fits (listed image (unpacked lent) words replies .batch .tag)) →
     let c = eventsCall image lent words replies in
@@ -484,12 +484,19 @@ sends-in tag fits =
     rw (chosen, staged) (sends-codes (tag .exchange .select .choosing) (tag .exchange .bus .stage))
 
 ahead-of : {image lent : List ℕ} {s : State} → Keeps image lent s →
-    (sendsIn lent ≡ true → after s (runs.Event.slot false) ≡ after s (runs.Event.slot true))
+    (sendsIn lent ≡ true
+    → (after s (runs.Event.slot false) ≡ after s (runs.Event.slot true)) × (after s (runs.Event.slot true) .image ≡ image))
     × (sendsIn lent ≡ false → lineBit s (runs.Event.slot true) ≡ true)
-ahead-of {s = s} k =
+ahead-of {image} {lent} {s} k =
     let fit = events .reached (k .reached) in
     let told = sends-in (s .tag) (k .fits) in
-    (λ e. events .sent fit (sym told ∙ (rw (k .lent-is) at e)), λ e. events .listens fit (sym told ∙ (rw (k .lent-is) at e)))
+    (busy fit told, λ e. events .listens fit (sym told ∙ (rw (k .lent-is) at e)))
+  where
+    busy : Fit s → sendsIn (packed (s .tag)) ≡ sentences.sendsNow s → sendsIn lent ≡ true →
+        (after s (runs.Event.slot false) ≡ after s (runs.Event.slot true)) × (after s (runs.Event.slot true) .image ≡ image)
+    busy fit told e =
+        let now-sends = sym told ∙ (rw (k .lent-is) at e) in
+        (events .sent fit now-sends, slot-spares fit now-sends ∙ sym (k .image-is))
 
 -- ---- calls one after the other
 

@@ -2,9 +2,10 @@
 use mathlib.Core.Bool.{true, false, false≢true}
 use mathlib.Core.Path.{_≡_, refl, sym, ap, _∙_}
 use Prim.Native.Nat.{ℕ}
-use lib.Dec.{ltb}
+use lib.Dec.{eqb, ltb}
 use Rattle.bits.specs.Choose.{choice}
 use Rattle.bus.specs.declared.Bus.{Bus}
+use Rattle.bus.specs.declared.Deed.{Deed}
 use Rattle.bus.specs.declared.Held.{Held}
 use Rattle.bus.specs.declared.Moved.{Moved}
 use Rattle.bus.specs.declared.Question.{Question}
@@ -16,10 +17,10 @@ use Rattle.field.specs.Field.{gatheredBit}
 use Rattle.memory.specs.Hear.{heardBit}
 use Rattle.memory.specs.Memory as memory
 use Rattle.memory.specs.Memory.Laws.{whole-listens, judged-listens}
-use Rattle.memory.specs.Send.{sentBit}
+use Rattle.memory.specs.Send.{sentBit, alternating}
 use Rattle.select.specs.declared.Choosing.{Choosing}
 use Rattle.select.specs.Select as select
-use Rattle.event.specs.Event.{slotted}
+use Rattle.event.specs.Event.{performed, slotted}
 use Rattle.record.specs.Record.{Outcome}
 use Rattle.promises.specs.Line.Slots.{answersOf}
 use Rattle.promises.specs.Ranges.{Fit}
@@ -66,6 +67,7 @@ slot-listens {s} fit quiet =
 record SameLeft (a b : Slotted) : Type 0 where
   pub exchange : a .exchange ≡ b .exchange
   pub deed : a .deed ≡ b .deed
+  pub nothing : b .deed ≡ Deed.Nothing
 
 -- a slot with either bit, answered by the image
 abbrev EitherBit : (Question → ℕ) → Exchange → Type 0
@@ -73,9 +75,10 @@ EitherBit answers x = SameLeft (exchange.slotOf x false (answers (exchange.asks 
 
 stage-sends : (g : Stage) (x : Exchange) (answers : Question → ℕ) → x .select .choosing ≡ Choosing.Selected → x .bus .stage ≡ g →
     sends Choosing.Selected g ≡ true → EitherBit answers x
-unfolding sends exchange.slotOf exchange.asks select.isChosen memory.slotOf memory.onLine memory.asks memory.stageAsks memory.stageSlot sentBit
-stage-sends (Stage.Sends s) x answers e g busy = rw (e, g) (record { exchange = refl; deed = refl })
-stage-sends Stage.Copied x answers e g busy = rw (e, g) (record { exchange = refl; deed = refl })
+unfolding sends exchange.slotOf exchange.asks select.isChosen memory.slotOf memory.onLine memory.asks memory.stageAsks memory.stageSlot sentBit alternating
+stage-sends (Stage.Sends s) x answers e g busy = rw (e, g) (record { exchange = refl; deed = refl; nothing = refl })
+stage-sends Stage.Copied x answers e g busy =
+    rw (e, g) (record { exchange = refl; deed = refl; nothing = choice (λ (m : Moved). m .deed ≡ Deed.Nothing) (eqb (x .bus .at) 0) refl refl })
 stage-sends Stage.Over x answers e g busy = absurd (false≢true busy)
 stage-sends (Stage.Hears h) x answers e g busy = absurd (false≢true busy)
 stage-sends (Stage.Gathers f) x answers e g busy = absurd (false≢true busy)
@@ -83,9 +86,9 @@ stage-sends (Stage.Gathers f) x answers e g busy = absurd (false≢true busy)
 exchange-sends : (c : Choosing) (x : Exchange) (answers : Question → ℕ) → x .select .choosing ≡ c → sends c (x .bus .stage) ≡ true → EitherBit answers x
 unfolding sends exchange.slotOf exchange.asks select.isChosen select.endsCommand select.slotOf select.slotAt
 exchange-sends Choosing.Selected x answers e busy = stage-sends (x .bus .stage) x answers e refl busy
-exchange-sends (Choosing.Reading at) x answers e busy = rw e (record { exchange = refl; deed = refl })
-exchange-sends (Choosing.Giving at) x answers e busy = rw e (record { exchange = refl; deed = refl })
-exchange-sends (Choosing.Complementing at) x answers e busy = rw e (record { exchange = refl; deed = refl })
+exchange-sends (Choosing.Reading at) x answers e busy = rw e (record { exchange = refl; deed = refl; nothing = refl })
+exchange-sends (Choosing.Giving at) x answers e busy = rw e (record { exchange = refl; deed = refl; nothing = refl })
+exchange-sends (Choosing.Complementing at) x answers e busy = rw e (record { exchange = refl; deed = refl; nothing = refl })
 exchange-sends Choosing.Silent x answers e busy = absurd (false≢true busy)
 exchange-sends (Choosing.Command heard count) x answers e busy = absurd (false≢true busy)
 exchange-sends (Choosing.Matching fast at) x answers e busy = absurd (false≢true busy)
@@ -96,3 +99,10 @@ unfolding after slotted
 slot-sends {s} fit busy =
     let left = exchange-sends (s .tag .exchange .select .choosing) (s .tag .exchange) (answersOf s) refl busy in
     rw (slot-happens (fit-sound fit) false, slot-happens (fit-sound fit) true, left .exchange, left .deed)
+
+-- and has done nothing to the image
+pub slot-spares : {s : State} → Fit s → sendsNow s ≡ true → after s (Event.slot true) .image ≡ s .image
+unfolding after slotted performed
+slot-spares {s} fit busy =
+    let left = exchange-sends (s .tag .exchange .select .choosing) (s .tag .exchange) (answersOf s) refl busy in
+    rw (slot-happens (fit-sound fit) true, left .nothing)
