@@ -1,9 +1,9 @@
 -- The calls of the library for C, by `newTag`, `step`, the list of request #101 and the dock's listing, through the bytes of a record:
 -- what each answers, and what it leaves in the bytes and places that it is lent. Assumes nothing.
-use mathlib.Core.Bool.{Bool, not, _&&_}
+use mathlib.Core.Bool.{true, not}
 use mathlib.Core.List.{List, [], _∷_, _++_}
 use mathlib.Core.Path.{_≡_}
-use Prim.Native.Nat.{ℕ}
+use Prim.Native.Nat.{ℕ, _≤_}
 use lib.Dec.{eqb, ltb}
 use lib.IntN.{ℤ}
 use lib.ListN.{length}
@@ -16,7 +16,7 @@ use Rattle.bits.specs.Choose.{if_then_else_}
 use Rattle.dock.specs.declared.Listing.{Listing}
 use Rattle.dock.specs.Entries.{periodOf}
 use Rattle.dock.specs.Listing.{answerOf, isAccepted, listingOf, temperaturesOf, secondsAt}
-use Rattle.packing.specs.Packing.{Field, eight, bytesOf, AllFit, packed, isPacked, unpacked}
+use Rattle.packing.specs.Packing.{Field, eight, bytesOf, AllFit, Fits, packed, isPacked, unpacked}
 use Rattle.record.specs.Record.{Outcome}
 use Rattle.tag.specs.Tag.{newTag, step}
 use Rattle.text.specs.Text.{twosComplement}
@@ -42,6 +42,10 @@ newCall image lent number code =
     if eqb (length lent) 80 then made (newTag image number code)
     else if not (eqb (length image) 8832) then notMade Answer.ImageLength image lent
     else notMade Answer.RecordRange image lent
+
+-- the record that it leaves fits its bytes
+abbrev pub NewFits : List ℕ → List ℕ → ℕ → ℕ → Type 0
+NewFits image lent number code = length lent ≡ 80 → Fits (newTag image number code .answered .tag)
 
 -- ---- an event
 
@@ -70,6 +74,11 @@ eventCall image lent code reading =
     if not (eqb (length image) 8832) then noEvent Answer.ImageLength image lent
     else if not (isPacked lent) then noEvent Answer.RecordRange image lent
     else stepped (step image (unpacked lent) code reading)
+
+-- the record that it leaves fits its bytes
+abbrev pub EventFits : List ℕ → List ℕ → ℕ → ℕ → Type 0
+EventFits image lent code reading =
+    length image ≡ 8832 → isPacked lent ≡ true → Fits (step image (unpacked lent) code reading .answered .tag)
 
 -- ---- a list of events
 
@@ -100,6 +109,12 @@ eventsCall image lent words replies =
     else if not (eqb (length image) 8832) then noEvents Answer.ImageLength image lent replies
     else if not (isPacked lent) then noEvents Answer.RecordRange image lent replies
     else done (batch.listed image (unpacked lent) words replies)
+
+-- the record that it leaves fits its bytes
+abbrev pub EventsFit : List ℕ → List ℕ → List ℕ → List ℕ → Type 0
+EventsFit image lent words replies =
+    length words ≤ length replies → length image ≡ 8832 → isPacked lent ≡ true →
+    Fits (batch.listed image (unpacked lent) words replies .batch .tag)
 
 -- ---- a listing
 
@@ -132,12 +147,12 @@ roomNumber dump places =
     if isAccepted (answerOf dump places) then answerNumber Answer.Places else answerNumber (answerOf dump places)
 
 unfoldable pub listCall : List ℕ → List ℤ → List ℕ → Listed
-listCall dump lent head =
-    let answer = answerOf dump (length lent) in
-    if ltb (length head) 28 then record { number = roomNumber dump (length lent); temperatures = lent; head = head }
+listCall dump places head =
+    let answer = answerOf dump (length places) in
+    if ltb (length head) 28 then record { number = roomNumber dump (length places); temperatures = places; head = head }
     else
     record {
       number = answerNumber answer;
-      temperatures = temperaturesOf dump lent;
-      head = if isAccepted answer then sets head 0 (headOf (listingOf dump (length lent))) else head;
+      temperatures = temperaturesOf dump places;
+      head = if isAccepted answer then sets head 0 (headOf (listingOf dump (length places))) else head;
     }

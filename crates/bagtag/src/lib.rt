@@ -1,6 +1,6 @@
 // The library for C: the tag's and the dock's calls on numbers and lent bytes alone, with the record packed into 80 of them. Each answers
 // whatever it is given, by document 01's numbers; include/bagtag.h says it to who calls. Beside its equations a contract says what the
-// types do: that the record's slice is of bytes, and that the record it leaves fits them. So a refusal that packs it again changes none.
+// types do: that the record's slice is of bytes, and that the record it leaves fits them. So a refusal that packs it again changes no byte.
 use answer::Answer;
 use dock::Listing;
 ghost use mathlib.Core.Bool.{true};
@@ -9,26 +9,25 @@ ghost use Prim.Native.Nat.{_≤_};
 ghost use lib.ListN.{length};
 ghost use lib.Seq.{sets};
 ghost use Rattle.batch.specs.Batch as batch;
-ghost use Rattle.bits.specs.Bits.{digit};
 ghost use Rattle.bits.specs.Bytes.{Bytes};
 ghost use Rattle.packing.specs.Packing.{bytesOf, AllFit, Fits, isPacked, unpacked};
 ghost use Rattle.dock.specs.Listing.{listingOf};
 ghost use Rattle.tag.specs.Tag.{newTag, step};
-ghost use Rattle.bagtag.specs.Bagtag.{newCall, eventCall, eventsCall, listCall, roomNumber, headOf, HeadFits, countsOf};
+ghost use Rattle.bagtag.specs.Bagtag.{newCall, NewFits, eventCall, EventFits, eventsCall, EventsFit, listCall, roomNumber, headOf, HeadFits, countsOf};
 
 const IMAGE: usize = 8832;
 
 // What a listing's head takes.
 const HEAD: usize = 28;
 
-// A new tag. Refused with 3, with 6 for the record's length, with 4 or 5, in that order; where the record has room, a refusal packs that
-// of all zeros.
+// A new tag. Refused with 3, with 6 for the record's length, with 4 or 5, in that order; where the record's length is right, a refusal
+// packs that of all zeros.
 #[no_mangle]
 pub extern "C" fn bagtag_new(image: &mut [u8], lent: &mut [u8], number: u64, code: u8) -> u8
     ensures { λ r. ⌜ r ≡ newCall (now (image .entry)) (now (lent .entry)) number code .number ⌝ }
     ensures { λ _. ⌜ now (image .exit) ≡ newCall (now (image .entry)) (now (lent .entry)) number code .image ⌝ }
     ensures { λ _. ⌜ now (lent .exit) ≡ newCall (now (image .entry)) (now (lent .entry)) number code .lent ⌝ }
-    ensures { λ _. ⌜ (length (now (lent .entry)) ≡ 80 → Fits (newTag (now (image .entry)) number code .answered .tag)) ⌝ }
+    ensures { λ _. ⌜ NewFits (now (image .entry)) (now (lent .entry)) number code ⌝ }
 {
     if lent.len() != packing::RECORD {
         if image.len() != IMAGE {
@@ -57,7 +56,7 @@ pub extern "C" fn bagtag_event(
     ensures { λ _. ⌜ now (lent .exit) ≡ eventCall (now (image .entry)) (now (lent .entry)) code reading .lent ⌝ }
     ensures { λ _. ⌜ now (line .exit) ≡ eventCall (now (image .entry)) (now (lent .entry)) code reading .line ⌝ }
     ensures { λ _. ⌜ Bytes (now (lent .entry)) ⌝ }
-    ensures { λ _. ⌜ (length (now (image .entry)) ≡ 8832 → isPacked (now (lent .entry)) ≡ true → Fits (step (now (image .entry)) (unpacked (now (lent .entry))) code reading .answered .tag)) ⌝ }
+    ensures { λ _. ⌜ EventFits (now (image .entry)) (now (lent .entry)) code reading ⌝ }
 {
     *line = 1;
     if image.len() != IMAGE {
@@ -70,7 +69,7 @@ pub extern "C" fn bagtag_event(
     let answer = answered.answer;
     let tag = answered.tag;
     packing::pack(lent, tag);
-    *line = bit(answered.line);
+    *line = bits::digit(answered.line);
     answer::number(answer)
 }
 
@@ -90,7 +89,7 @@ pub extern "C" fn bagtag_events(
     ensures { λ _. ⌜ now (replies .exit) ≡ eventsCall (now (image .entry)) (now (lent .entry)) (now (words .entry)) (now (replies .entry)) .replies ⌝ }
     ensures { λ _. ⌜ now (done .exit) ≡ eventsCall (now (image .entry)) (now (lent .entry)) (now (words .entry)) (now (replies .entry)) .done ⌝ }
     ensures { λ _. ⌜ Bytes (now (lent .entry)) ⌝ }
-    ensures { λ _. ⌜ (length (now (words .entry)) ≤ length (now (replies .entry)) → length (now (image .entry)) ≡ 8832 → isPacked (now (lent .entry)) ≡ true → Fits (batch.listed (now (image .entry)) (unpacked (now (lent .entry))) (now (words .entry)) (now (replies .entry)) .batch .tag)) ⌝ }
+    ensures { λ _. ⌜ EventsFit (now (image .entry)) (now (lent .entry)) (now (words .entry)) (now (replies .entry)) ⌝ }
 {
     *done = 0;
     if replies.len() < words.len() {
@@ -153,6 +152,7 @@ fn put_head(head: &mut [u8], listing: Listing)
     put_counts(head, listing);
 }
 
+// A function of its own, since what its type says of the stamp, six bytes, is known of a parameter.
 fn put_stamp(head: &mut [u8], stamp: [u8; 6])
     ensures { λ _. ⌜ now (head .exit) ≡ sets (now (head .entry)) 2 stamp ⌝ }
     ensures { λ _. ⌜ length stamp ≡ 6 ⌝ }
@@ -160,6 +160,7 @@ fn put_stamp(head: &mut [u8], stamp: [u8; 6])
     packing::put(head, 2, &stamp);
 }
 
+// The numbers behind the stamp.
 fn put_counts(head: &mut [u8], listing: Listing)
     ensures { λ _. ⌜ now (head .exit) ≡ sets (now (head .entry)) 8 (bytesOf (countsOf listing)) ⌝ }
     ensures { λ _. ⌜ AllFit (countsOf listing) ⌝ }
@@ -173,10 +174,4 @@ fn put_counts(head: &mut [u8], listing: Listing)
         text::twos_complement(dock::seconds(listing, 0)),
     );
     image::put_word(head, 24, 4, dock::period(listing.rate, listing.ehss) as u64);
-}
-
-fn bit(line: bool) -> u8
-    ensures { λ r. ⌜ r ≡ digit line ⌝ }
-{
-    if line { 1 } else { 0 }
 }

@@ -4,7 +4,6 @@ use answer::Answer;
 use record::Answered;
 use record::Tag;
 ghost use mathlib.Core.Path.{_≡_};
-ghost use Rattle.bits.specs.Bits.{digit};
 ghost use Rattle.batch.specs.Batch.{isCode, isEvent, returned, listed};
 ghost use Rattle.batch.specs.Batch.Laws.{eventIn};
 
@@ -36,7 +35,7 @@ pub fn events(image: &mut [u8], tag: Tag, words: &[u16], replies: &mut [u8]) -> 
     let mut i = 0;
     while i < words.len() && is_event(words[i]) {
         let answered = event(image, now, words[i]);
-        replies[i] = one_if(answered.line);
+        replies[i] = bits::digit(answered.line);
         now = answered.tag;
         i += 1;
     }
@@ -77,10 +76,4 @@ fn event(image: &mut [u8], tag: Tag, word: u16) -> Answered
         4 => event::short_reset(tag),
         _ => event::tick(image, tag, word % 4096),
     }
-}
-
-fn one_if(yes: bool) -> u8
-    ensures { λ r. ⌜ r ≡ digit yes ⌝ }
-{
-    if yes { 1 } else { 0 }
 }

@@ -1,7 +1,14 @@
 // Numbers as the line carries them, low bit first: one bit of a number, and a register that a bit is shifted into.
 // Every function answers any input.
 ghost use mathlib.Core.Path.{_≡_};
-ghost use Rattle.bits.specs.Bits.{bitOf, shiftIn};
+ghost use Rattle.bits.specs.Bits.{digit, bitOf, shiftIn};
+
+// A bit as a number.
+pub fn digit(bit: bool) -> u8
+    ensures { λ r. ⌜ r ≡ digit bit ⌝ }
+{
+    if bit { 1 } else { 0 }
+}
 
 // Bit `at` of `n`, counted from the low end; past the top a number has only zeros.
 pub fn bit(n: u64, at: u8) -> bool

@@ -1,5 +1,5 @@
 -- The enums of a record as numbers: a case by its place in the enum's declaration, from 0 on, and beside it two numbers for what it
--- holds, 0 where it holds less. Whatever the numbers are, they stand for some case; those that are a case's own are told by coding it
+-- holds: one thing stands in the second, and 0 where there is nothing. Whatever the numbers are, they stand for some case; those that are a case's own are told by coding it
 -- again. Assumes nothing.
 use mathlib.Core.Bool.{Bool, _&&_}
 use Prim.Native.Nat.{ℕ}

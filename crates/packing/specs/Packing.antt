@@ -54,6 +54,7 @@ bytesOf (f ∷ fs) = lowFirst (f .width) (f .value) ++ bytesOf fs
 abbrev pub version : ℕ
 version = 1
 
+-- an enum's three, in front of others
 abbrev pub codes : Coded → List ℕ → List ℕ
 codes c ns = c .case ∷ c .first ∷ c .second ∷ ns
 

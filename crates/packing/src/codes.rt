@@ -1,5 +1,5 @@
 // The enums of a record as numbers: a case by its place in the enum's declaration, from 0 on, and beside it two numbers for what it
-// holds, 0 where it holds less. Whatever the numbers are, they stand for some case.
+// holds: one thing stands in the second, and 0 where there is nothing. Whatever the numbers are, they stand for some case.
 use crate::Coded;
 use bus::Addressed;
 use bus::Control;
@@ -11,7 +11,6 @@ use bus::Stage;
 use select::Choosing;
 use select::Mode;
 ghost use mathlib.Core.Path.{_≡_};
-ghost use Rattle.bits.specs.Bits.{digit};
 ghost use Rattle.packing.specs.Codes.{codedAs, choosingCodes, choosingOf, modeCode, modeOf, hearingCodes, guardedCodes, sendingCodes, stageCodes, hearingOf, guardedOf, sendingOf, stageOf, addressedCode, addressedOf, controlCode, controlOf, nextCode, nextOf, sameCodes, isChoosing, isStage, isMode, isFlag};
 
 pub(crate) fn coded(case: u8, first: u8, second: u8) -> Coded
@@ -33,7 +32,7 @@ pub(crate) fn choosing_codes(choosing: Choosing) -> Coded
         Choosing::Silent => coded(0, 0, 0),
         Choosing::Command(heard, count) => coded(1, heard, count),
         Choosing::Reading(at) => coded(2, 0, at),
-        Choosing::Matching(fast, at) => coded(3, flag_code(fast), at),
+        Choosing::Matching(fast, at) => coded(3, bits::digit(fast), at),
         Choosing::Giving(at) => coded(4, 0, at),
         Choosing::Complementing(at) => coded(5, 0, at),
         Choosing::Awaiting(at) => coded(6, 0, at),
@@ -249,12 +248,6 @@ fn next_of(code: u8) -> Next
         1 => Next::Page,
         _ => Next::Nothing,
     }
-}
-
-pub(crate) fn flag_code(flag: bool) -> u8
-    ensures { λ r. ⌜ r ≡ digit flag ⌝ }
-{
-    if flag { 1 } else { 0 }
 }
 
 // ---- numbers that are a case's own

@@ -59,7 +59,7 @@ fn put_words(lent: &mut [u8], tag: Tag)
     put(lent, 40, &eight(bus.field));
 }
 
-// The scratchpad.
+// The scratchpad. A function of its own, since what its type says, 32 bytes, is known of a parameter.
 fn put_pad(lent: &mut [u8], pad: [u8; 32])
     ensures { λ _. ⌜ now (lent .exit) ≡ sets (now (lent .entry)) 48 pad ⌝ }
     ensures { λ _. ⌜ (length pad ≡ 32) × Bytes pad ⌝ }
@@ -96,8 +96,8 @@ fn single_bytes(tag: Tag) -> [u8; 16]
         b.at,
         b.status,
         h.ending,
-        codes::flag_code(h.pf),
-        codes::flag_code(h.aa),
+        bits::digit(h.pf),
+        bits::digit(h.aa),
     ]
 }
 

@@ -40,6 +40,7 @@ pub record Determinacy : Type 2 where
   pub answer-number : Sole answer.number.Reads.Post (λ k r e. r)
   pub answer-refusal-text : Sole answer.refusal_text.Reads.Post (λ k r e. r)
   -- bits
+  pub bits-digit : Sole bits.digit.Reads.Post (λ k r e. r)
   pub bits-bit : Sole bits.bit.Reads.Post (λ k r e. r)
   pub bits-shift-in8 : Sole bits.shift_in8.Reads.Post (λ k r e. r)
   pub bits-shift-in64 : Sole bits.shift_in64.Reads.Post (λ k r e. r)
@@ -175,6 +176,7 @@ determinacy =
     record {
       answer-number = λ k a r s e f p q. p ∙ sym q;
       answer-refusal-text = λ k a r s e f p q. p ∙ sym q;
+      bits-digit = λ k a r s e f p q. p ∙ sym q;
       bits-bit = λ k a r s e f p q. p ∙ sym q;
       bits-shift-in8 = λ k a r s e f p q. p ∙ sym q;
       bits-shift-in64 = λ k a r s e f p q. p ∙ sym q;

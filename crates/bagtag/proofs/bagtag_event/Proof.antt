@@ -40,7 +40,7 @@ returns-3 c =
           rw (e, ← unpack .ensures, ← event .ensures .0, pack .ensures .0)
               (fills (a .lent .now) (event .result .tag) size (pack .ensures .1)),
           (
-            rw (e, ← unpack .ensures, ← event .ensures .0) (c .before .bit .ensures),
+            rw (e, ← unpack .ensures, ← event .ensures .0) (c .before .digit .ensures),
             (λ k. c .before .before .before .before .before .before .before .before .before .before .before .before .before .before .before .before .before .slice-known2 .given k .fits, λ whole right. rw (← unpack .ensures, ← event .ensures .0) (pack .ensures .1)),
           ),
         ),

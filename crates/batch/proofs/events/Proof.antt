@@ -68,7 +68,7 @@ loop-again c =
     let next : l .i + 1 ≤ length words = omega arith in
     let on =
     list-on (l .image) (l .now) words (l .replies) (l .i) (turn .before .before .before .loop-test .taken) word (l .inv .1) (l .inv .2)
-    _ (event .event .ensures .0) _ (event .event .ensures .1) _ (c .before .one-if .ensures) in
+    _ (event .event .ensures .0) _ (event .event .ensures .1) _ (c .before .digit .ensures) in
     (next, event .event .kept .0 ∙ l .inv .1, on .0, length-set (l .replies) (l .i) _ ∙ l .inv .3, on .1 ∙ l .inv .4)
 
 -- what a list is when the words from `i` on leave this

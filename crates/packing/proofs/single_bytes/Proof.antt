@@ -11,8 +11,8 @@ single-bytes-spec =
     (tie.spec (search needs) (search needs) (search needs) (search needs) (search needs)
     (λ c.
     rw (
-      c .flag-code2 .ensures,
-      c .before .flag-code .ensures,
+      c .digit2 .ensures,
+      c .before .digit .ensures,
       c .before .before .mode-code .ensures,
       c .before .before .before .stage-codes .ensures,
       c .before .before .before .before .choosing-codes .ensures,

@@ -10,7 +10,7 @@ choosing-codes-spec =
     (λ c. rw (c .before .enum-told .given .1) (c .coded .ensures))
     (λ c. rw (c .before .before .choosing .given .1) (c .coded2 .ensures))
     (λ c. rw (c .before .before .choosing2 .given .1) (c .coded3 .ensures))
-    (λ c. rw (c .before .before .before .choosing3 .given .1, ← c .before .flag-code .ensures) (c .coded4 .ensures))
+    (λ c. rw (c .before .before .before .choosing3 .given .1, ← c .before .digit .ensures) (c .coded4 .ensures))
     (λ c. rw (c .before .before .choosing4 .given .1) (c .coded5 .ensures))
     (λ c. rw (c .before .before .choosing5 .given .1) (c .coded6 .ensures))
     (λ c. rw (c .before .before .choosing6 .given .1) (c .coded7 .ensures))
