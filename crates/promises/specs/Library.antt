@@ -16,17 +16,26 @@ use Rattle.bagtag.proofs.bagtag_events.Reads as bagtag-events
 use Rattle.bagtag.proofs.bagtag_list.Reads as bagtag-list
 use Rattle.bagtag.proofs.bagtag_new.Reads as bagtag-new
 use Rattle.batch.specs.Batch.{Listed, listed}
+use Rattle.bus.specs.declared.Addressed.{Addressed}
+use Rattle.bus.specs.declared.Control.{Control}
+use Rattle.bus.specs.declared.Guarded.{Guarded}
+use Rattle.bus.specs.declared.Hearing.{Hearing}
+use Rattle.bus.specs.declared.Next.{Next}
+use Rattle.bus.specs.declared.Sending.{Sending}
+use Rattle.bus.specs.declared.Stage.{Stage}
 use Rattle.dock.specs.declared.Listing.{Listing}
 use Rattle.dock.specs.Listing.{listingOf, temperaturesOf, secondsAt}
-use Rattle.packing.specs.Packing.{Fits, packed, isPacked, unpacked}
+use Rattle.packing.specs.Packing.{packed, isPacked, unpacked}
 use Rattle.record.specs.declared.Tag.{Tag}
+use Rattle.select.specs.declared.Choosing.{Choosing}
 use Rattle.tag.specs.Tag.{newTag, step}
 use Rattle.promises.specs.Batches.{eventsOf}
 use Rattle.promises.specs.Ranges.{isRom, isConfiguration, inRange}
 use Rattle.promises.specs.Runs.{State, Event, leaves, after, lineBit, Reached}
 use Rattle.promises.specs.Sentences.Dump.{dumpNumber}
-use Rattle.promises.specs.Sentences.Events.{ownNumber}
+use Rattle.promises.specs.Sentences.Events.{numberIn, ownNumber}
 use Rattle.promises.specs.Words.{if_then_else_, markIn, speedIn}
+pub mod Record
 pub mod Proof
 
 -- ---- a record in its bytes
@@ -39,6 +48,79 @@ wordIn lent at (suc count) = getD lent at 0 + 256 * wordIn lent (suc at) count
 abbrev pub digitOf : Bool → ℕ
 digitOf b = if b then 1 else 0
 
+-- every element is a byte
+abbrev pub Bytes : List ℕ → Type 0
+Bytes lent = (i : ℕ) → getD lent i 0 < 256
+
+-- how far a ROM command is, in three bytes: the case, what is heard of a command or 1 for an overdrive Match, and how many bits of the command,
+-- or the number's next bit
+abbrev pub choosingBytes : Choosing → List ℕ
+choosingBytes Choosing.Silent = 0 ∷ 0 ∷ 0 ∷ []
+choosingBytes (Choosing.Command heard count) = 1 ∷ heard ∷ count ∷ []
+choosingBytes (Choosing.Reading at) = 2 ∷ 0 ∷ at ∷ []
+choosingBytes (Choosing.Matching fast at) = 3 ∷ digitOf fast ∷ at ∷ []
+choosingBytes (Choosing.Giving at) = 4 ∷ 0 ∷ at ∷ []
+choosingBytes (Choosing.Complementing at) = 5 ∷ 0 ∷ at ∷ []
+choosingBytes (Choosing.Awaiting at) = 6 ∷ 0 ∷ at ∷ []
+choosingBytes Choosing.Selected = 7 ∷ 0 ∷ 0 ∷ []
+
+abbrev pub addressedByte : Addressed → ℕ
+addressedByte Addressed.Write = 0
+addressedByte Addressed.Copy = 1
+addressedByte Addressed.Read = 2
+
+abbrev pub controlByte : Control → ℕ
+controlByte Control.Clear = 0
+controlByte Control.Start = 1
+controlByte Control.Stop = 2
+controlByte Control.Convert = 3
+
+abbrev pub nextByte : Next → ℕ
+nextByte Next.Nothing = 0
+nextByte Next.Page = 1
+
+-- how far a memory command is, in three bytes: the stage, the case in it, and what that holds: a command, a place of the scratchpad, or what
+-- follows a CRC-16
+abbrev pub stageBytes : Stage → List ℕ
+stageBytes Stage.Over = 0 ∷ 0 ∷ 0 ∷ []
+stageBytes (Stage.Hears Hearing.Command) = 1 ∷ 0 ∷ 0 ∷ []
+stageBytes (Stage.Hears (Hearing.Low addressed)) = 1 ∷ 1 ∷ addressedByte addressed ∷ []
+stageBytes (Stage.Hears (Hearing.High addressed)) = 1 ∷ 2 ∷ addressedByte addressed ∷ []
+stageBytes (Stage.Hears (Hearing.Data place)) = 1 ∷ 3 ∷ place ∷ []
+stageBytes (Stage.Hears Hearing.Status) = 1 ∷ 4 ∷ 0 ∷ []
+stageBytes (Stage.Hears (Hearing.Confirm control)) = 1 ∷ 5 ∷ controlByte control ∷ []
+stageBytes (Stage.Gathers Guarded.Reading) = 2 ∷ 0 ∷ 0 ∷ []
+stageBytes (Stage.Gathers Guarded.Copying) = 2 ∷ 1 ∷ 0 ∷ []
+stageBytes (Stage.Gathers (Guarded.Controlling control)) = 2 ∷ 2 ∷ controlByte control ∷ []
+stageBytes (Stage.Sends Sending.PadLow) = 3 ∷ 0 ∷ 0 ∷ []
+stageBytes (Stage.Sends Sending.PadHigh) = 3 ∷ 1 ∷ 0 ∷ []
+stageBytes (Stage.Sends Sending.PadStatus) = 3 ∷ 2 ∷ 0 ∷ []
+stageBytes (Stage.Sends (Sending.PadData place)) = 3 ∷ 3 ∷ place ∷ []
+stageBytes (Stage.Sends Sending.Memory) = 3 ∷ 4 ∷ 0 ∷ []
+stageBytes (Stage.Sends (Sending.CrcLow next)) = 3 ∷ 5 ∷ nextByte next ∷ []
+stageBytes (Stage.Sends (Sending.CrcHigh next)) = 3 ∷ 6 ∷ nextByte next ∷ []
+stageBytes Stage.Copied = 4 ∷ 0 ∷ 0 ∷ []
+
+-- what the types of a record say of its numbers: one byte, two or eight, and 32 bytes of scratchpad
+pub record Holds (tag : Tag) : Type 0 where
+  pub code : tag .code < 256
+  pub minute : tag .counters .minute < 256
+  pub choosing : Bytes (choosingBytes (tag .exchange .select .choosing))
+  pub stage : Bytes (stageBytes (tag .exchange .bus .stage))
+  pub byte : tag .exchange .bus .byte < 256
+  pub bits : tag .exchange .bus .at < 256
+  pub status : tag .exchange .bus .status < 256
+  pub ending : tag .exchange .held .ending < 256
+  pub reading : tag .counters .reading < 65536
+  pub ta : tag .exchange .held .ta < 65536
+  pub crc : tag .exchange .bus .crc < 65536
+  pub address : tag .exchange .bus .address < 65536
+  pub number : tag .exchange .number < 18446744073709551616
+  pub wait : tag .counters .wait < 18446744073709551616
+  pub field : tag .exchange .bus .field < 18446744073709551616
+  pub pad : length (tag .exchange .held .pad) ≡ 32
+  pub pad-bytes : Bytes (tag .exchange .held .pad)
+
 -- "at fixed offsets, little-endian, with a version byte": those of include/bagtag.h
 pub record Laid (tag : Tag) (lent : List ℕ) : Type 0 where
   pub size : length lent ≡ 80
@@ -47,6 +129,8 @@ pub record Laid (tag : Tag) (lent : List ℕ) : Type 0 where
   pub minute : getD lent 2 0 ≡ tag .counters .minute
   -- the Resume mark counts 1, overdrive 2
   pub mode : getD lent 3 0 ≡ digitOf (markIn (tag .exchange .select .mode)) + 2 * digitOf (speedIn (tag .exchange .select .mode))
+  pub choosing : getD lent 4 0 ∷ getD lent 5 0 ∷ getD lent 6 0 ∷ [] ≡ choosingBytes (tag .exchange .select .choosing)
+  pub stage : getD lent 7 0 ∷ getD lent 8 0 ∷ getD lent 9 0 ∷ [] ≡ stageBytes (tag .exchange .bus .stage)
   pub byte : getD lent 10 0 ≡ tag .exchange .bus .byte
   pub bits : getD lent 11 0 ≡ tag .exchange .bus .at
   pub status : getD lent 12 0 ≡ tag .exchange .bus .status
@@ -62,15 +146,11 @@ pub record Laid (tag : Tag) (lent : List ℕ) : Type 0 where
   pub field : wordIn lent 40 8 ≡ tag .exchange .bus .field
   pub pad : drop 48 lent ≡ tag .exchange .held .pad
 
--- every element is a byte
-abbrev pub Bytes : List ℕ → Type 0
-Bytes lent = (i : ℕ) → getD lent i 0 < 256
-
 -- some record packs to these bytes
 pub record Packs (lent : List ℕ) : Type 0 where
   pub tag : Tag
-  pub fits : Fits tag
-  pub bytes : packed tag ≡ lent
+  pub holds : Holds tag
+  pub bytes : lent ≡ packed tag
 
 -- does the tag send in the next slot? By the record's bytes 4 and 7: BAGTAG_SENDS of the header
 unfoldable pub sendsBy : ℕ → ℕ → Bool
@@ -103,8 +183,8 @@ eventNumber image lent code reading =
     else ownNumber code reading
 
 -- "17, checked before all others; then 3 and 6", then 1 for a word that is no event
-unfoldable pub listNumber : List ℕ → List ℕ → List ℕ → List ℕ → ℕ
-listNumber image lent words replies =
+unfoldable pub eventsNumber : List ℕ → List ℕ → List ℕ → List ℕ → ℕ
+eventsNumber image lent words replies =
     if ltb (length replies) (length words) then 17
     else if not (eqb (length image) 8832) then 3
     else if not (isRecord lent) then 6
@@ -139,7 +219,7 @@ pub record Keeps (image lent : List ℕ) (s : State) : Type 0 where
   pub reached : Reached s
   pub image-is : image ≡ s .image
   pub lent-is : lent ≡ packed (s .tag)
-  pub fits : Fits (s .tag)
+  pub holds : Holds (s .tag)
 
 pub record KeptTag (image lent : List ℕ) : Type 0 where
   pub state : State
@@ -163,8 +243,8 @@ pub data FromNew : List ℕ → List ℕ → Type 2 where
 -- the arguments at exit; `Asked` is what a caller must show of the arguments
 pub record Library : Type 2 where
   -- "`unpack (pack t) ≡ t`", and the parts stand at the header's offsets
-  pub back : (tag : Tag) → Fits tag → unpacked (packed tag) ≡ tag
-  pub laid : (tag : Tag) → Fits tag → Laid tag (packed tag)
+  pub back : (tag : Tag) → Holds tag → unpacked (packed tag) ≡ tag
+  pub laid : (tag : Tag) → Holds tag → Bytes (packed tag) × Laid tag (packed tag)
   -- "bytes that unpack are exactly those that some record packs to"
   pub exactly : (lent : List ℕ) → Bytes lent → (isPacked lent ≡ true) ↔ Packs lent
   -- "Nobody needs to check first": of no arguments is there anything to show
@@ -188,9 +268,31 @@ pub record Library : Type 2 where
   -- a list: "answer 1 of `bagtag_events` keeps the words done before it", every other refusal leaves everything, and nothing is done
   pub lists : (κs : _) (image : _) (lent : _) (words : _) (replies : _) (done : _) (r : ℕ) (exit : _) →
       bagtag-events.Post κs (image, (lent, (words, (replies, (done, tt))))) r exit →
-      (r ≡ listNumber (now image) (now lent) (now words) (now replies))
+      (r ≡ eventsNumber (now image) (now lent) (now words) (now replies))
       × (r ≢ 0 → r ≢ 1 → (now (exit .0) ≡ now image) × (now (exit .1 .0) ≡ now lent) × (now (exit .1 .1 .1 .0) ≡ now replies)
       × (now (exit .1 .1 .1 .1 .0) ≡ 0))
+  -- "one equation with `step`, `newTag`, the list of #101 .. through `pack` and `unpack`": of any image, and of the bytes of any record
+  pub makes : (κs : _) (image : _) (lent : _) (number code : ℕ) (r : ℕ) (exit : _) →
+      bagtag-new.Post κs (image, (lent, (number, (code, tt)))) r exit → length (now lent) ≡ 80 →
+      let o = newTag (now image) number code in
+      (r ≡ numberIn (o .answered .answer)) × (now (exit .0) ≡ o .image) × (now (exit .1 .0) ≡ packed (o .answered .tag))
+  pub steps : (κs : _) (image : _) (lent : _) (code reading : ℕ) (line : _) (r : ℕ) (exit : _) →
+      bagtag-event.Post κs (image, (lent, (code, (reading, (line, tt))))) r exit → (p : Packs (now lent)) →
+      let o = step (now image) (p .tag) code reading in
+      (r ≡ numberIn (o .answered .answer)) × (now (exit .0) ≡ o .image) × (now (exit .1 .0) ≡ packed (o .answered .tag))
+      × (now (exit .1 .1 .1 .1 .0) ≡ digitOf (o .answered .line))
+  pub does : (κs : _) (image : _) (lent : _) (words : _) (replies : _) (done : _) (r : ℕ) (exit : _) →
+      bagtag-events.Post κs (image, (lent, (words, (replies, (done, tt))))) r exit → (p : Packs (now lent)) →
+      let l = listed (now image) (p .tag) (now words) (now replies) in
+      (r ≡ numberIn (l .batch .answer)) × (now (exit .0) ≡ l .image) × (now (exit .1 .0) ≡ packed (l .batch .tag))
+      × (now (exit .1 .1 .1 .0) ≡ l .replies) × (now (exit .1 .1 .1 .1 .0) ≡ l .batch .done)
+  -- "`*line` is 0 or 1", whatever was lent
+  pub line : (κs : _) (image : _) (lent : _) (code reading : ℕ) (line : _) (r : ℕ) (exit : _) →
+      bagtag-event.Post κs (image, (lent, (code, (reading, (line, tt))))) r exit → now (exit .1 .1 .1 .1 .0) < 2
+  -- "the record of all zeros, which every event refuses with 6"
+  pub zeros : (κs : _) (image : _) (lent : _) (code reading : ℕ) (line : _) (r : ℕ) (exit : _) →
+      bagtag-event.Post κs (image, (lent, (code, (reading, (line, tt))))) r exit → now lent ≡ 1 ∷ replicate 79 0 →
+      r ≡ (if eqb (length (now image)) 8832 then 6 else 3)
   -- a listing: "12 if it is too short"; a refusal leaves places and head, and one that is accepted has its parts at the header's offsets
   pub dumps : (κs : _) (text : _) (places : _) (head : _) (r : ℕ) (exit : _) → bagtag-list.Post κs (text, (places, (head, tt))) r exit →
       (r ≡ dumpsNumber (now text) (length (now places)) (length (now head)))
@@ -224,5 +326,5 @@ pub record Library : Type 2 where
       × (sendsIn lent ≡ false → lineBit s (Event.slot true) ≡ true)
   pub event-not-6 : (κs : _) (image : _) (lent : _) (code reading : ℕ) (line : _) (r : ℕ) (exit : _) →
       bagtag-event.Post κs (image, (lent, (code, (reading, (line, tt))))) r exit → FromNew (now image) (now lent) → r ≢ 6
-  pub list-not-6 : (κs : _) (image : _) (lent : _) (words : _) (replies : _) (done : _) (r : ℕ) (exit : _) →
+  pub events-not-6 : (κs : _) (image : _) (lent : _) (words : _) (replies : _) (done : _) (r : ℕ) (exit : _) →
       bagtag-events.Post κs (image, (lent, (words, (replies, (done, tt))))) r exit → FromNew (now image) (now lent) → r ≢ 6

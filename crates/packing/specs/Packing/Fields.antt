@@ -56,6 +56,24 @@ unfolding AllFit
 fit-append [] gs fits more = more
 fit-append (f ∷ fs) gs fits more = (fits .0, fit-append fs gs (fits .1) more)
 
+-- and all of them are bytes
+pub append-bytes : (l m : List ℕ) → Bytes l → Bytes m → Bytes (l ++ m)
+append-bytes [] m first second k = second k
+append-bytes (x ∷ xs) m first second zero = first zero
+append-bytes (x ∷ xs) m first second (suc k) = append-bytes xs m (λ i. first (suc i)) second k
+
+low-bytes : (width n : ℕ) → Bytes (lowFirst width n)
+unfolding lowFirst
+low-bytes zero n k = omega arith
+low-bytes (suc width) n zero = omega arith
+low-bytes (suc width) n (suc k) = low-bytes width (n / 256) k
+
+pub fields-bytes : (fs : List Field) → Bytes (bytesOf fs)
+unfolding bytesOf
+fields-bytes [] k = omega arith
+fields-bytes (f ∷ fs) k =
+    append-bytes (lowFirst (f .width) (f .value)) (bytesOf fs) (low-bytes (f .width) (f .value)) (fields-bytes fs) k
+
 -- bytes fit a byte each
 pub fit-singles : (ns : List ℕ) → Bytes ns → AllFit (map byte ns)
 unfolding AllFit

@@ -23,7 +23,7 @@ use Rattle.packing.specs.declared.Coded.{Coded}
 use Rattle.packing.specs.Codes.{codedAs, choosingCodes, choosingOf, modeCode, modeOf, stageCodes, stageOf, isChoosing, isStage, isMode, isFlag}
 use Rattle.packing.specs.Codes.Laws.{choosing-back, stage-back, mode-back, flag-back, own-choosing, own-stage, own-mode, own-flag, choosing-again, stage-again, mode-again, flag-again}
 use Rattle.packing.specs.Packing.{Field, byte, pair, eight, version, bytesOf, singles, pairs, eights, wordsOf, fieldsOf, packed, AllFit, Fits, bytesFrom, choosingIn, stageIn, isPacked, countersIn, selectIn, heldIn, busIn, exchangeIn, unpacked}
-use Rattle.packing.specs.Packing.Fields.{word-one, offsetOf, field-back, widthsOf, length-fields, stores, stores-sets, bytes-append, bytes-singles, fit-singles, bytes-all, bytes-past, bytes-join, bytes-again, fieldsIn, fields-fit, sum, length-bytes, bytes-are}
+use Rattle.packing.specs.Packing.Fields.{word-one, offsetOf, field-back, widthsOf, length-fields, stores, stores-sets, bytes-append, append-bytes, fields-bytes, bytes-singles, fit-singles, bytes-all, bytes-past, bytes-join, bytes-again, fieldsIn, fields-fit, sum, length-bytes, bytes-are}
 
 -- ---- storing
 
@@ -69,6 +69,11 @@ tag-stored lent tag bytes =
 pub length-packed : (tag : Tag) → length (tag .exchange .held .pad) ≡ 32 → length (packed tag) ≡ 80
 unfolding packed
 length-packed tag size = length-append (bytesOf (fieldsOf tag)) (tag .exchange .held .pad) ∙ rw (head-length tag, size)
+
+-- a record packs to bytes
+pub packed-bytes : (tag : Tag) → Bytes (tag .exchange .held .pad) → Bytes (packed tag)
+unfolding packed
+packed-bytes tag bytes = append-bytes (bytesOf (fieldsOf tag)) (tag .exchange .held .pad) (fields-bytes (fieldsOf tag)) bytes
 
 -- ---- what is packed is unpacked
 

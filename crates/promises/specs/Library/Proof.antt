@@ -22,6 +22,7 @@ use Rattle.bagtag.specs.Bagtag.Laws.{new-made, new-image, new-lent, event-image
 use Rattle.batch.specs.Batch.{listed}
 use Rattle.batch.specs.Batch.Laws as laws
 use Rattle.bits.specs.Bits.{digit}
+use Rattle.bits.specs.Bytes.{bytes-blank}
 use Rattle.dock.specs.declared.Listing.{Listing}
 use Rattle.dock.specs.Entries.{periodOf}
 use Rattle.dock.specs.Listing.{answerOf, isAccepted, listingOf, temperaturesOf, secondsAt}
@@ -30,9 +31,9 @@ use Rattle.image.specs.Fields.{wordAt}
 use Rattle.bus.specs.declared.Stage.{Stage}
 use Rattle.packing.specs.Codes.{modeCode, choosingCodes, stageCodes}
 use Rattle.packing.specs.Codes.Laws.{hearing-case, guarded-case, sending-case}
-use Rattle.packing.specs.Packing.{byte, Fits, bytesOf, fieldsOf, singles, pairs, eights, wordsOf, lowFirst, packed, isPacked, unpacked}
+use Rattle.packing.specs.Packing.{byte, Fits, AllFit, bytesOf, fieldsOf, singles, pairs, eights, wordsOf, lowFirst, packed, isPacked, unpacked}
 use Rattle.packing.specs.Packing.Fields.{offsetOf, field-back, word-past, widthsOf, length-fields}
-use Rattle.packing.specs.Packing.Laws.{length-packed, head-length, packed-field, packed-byte, unpacked-packed, packed-is, own-of, packed-unpacked, unpacked-fits}
+use Rattle.packing.specs.Packing.Laws.{packed-bytes, unpacked-packed, packed-is, own-of, packed-unpacked}
 use Rattle.record.specs.declared.Tag.{Tag}
 use Rattle.record.specs.Record.{Outcome}
 use Rattle.select.specs.declared.Choosing.{Choosing}
@@ -44,7 +45,8 @@ use Rattle.promises.specs.Batches.Words.{list-leaves}
 use Rattle.promises.specs.Batches.Proof.{batches}
 use Rattle.promises.specs.Calls.Proof.{reached-step}
 use Rattle.promises.specs.Demand1.{demand1}
-use Rattle.promises.specs.Library.{digitOf, sendsBy, sendsIn, Laid, Bytes, Packs, isRecord, newNumber, eventNumber, listNumber, dumpsNumber, signed64, HeadLaid, Keeps, KeptTag, FromNew, Library}
+use Rattle.promises.specs.Library.Record.{fits-of, holds-of, laid-out, exactly-packed, sends-in}
+use Rattle.promises.specs.Library.{digitOf, sendsIn, Bytes, newNumber, eventNumber, eventsNumber, dumpsNumber, signed64, HeadLaid, Keeps, KeptTag, FromNew, Library}
 use Rattle.promises.specs.Ranges.{isRom, isConfiguration, inRange, Fit}
 use Rattle.promises.specs.Runs as runs
 use Rattle.promises.specs.Runs.{State, leaves, after, lineBit, Reached}
@@ -56,51 +58,6 @@ use Rattle.promises.specs.Sentences.Events.{numberIn, ownNumber}
 use Rattle.promises.specs.Sentences.Events.Slots.{slot-spares}
 use Rattle.promises.specs.Sentences.Events.Proof.{events, number-accepts}
 use Rattle.promises.specs.Words.{if_then_else_, markIn, speedIn}
-
--- ---- a record in its bytes
-
-mode-told : (mode : Mode) → modeCode mode ≡ digitOf (markIn mode) + 2 * digitOf (speedIn mode)
-mode-told Mode.Plain = refl
-mode-told Mode.Marked = refl
-mode-told Mode.Overdrive = refl
-mode-told Mode.OverdriveMarked = refl
-
-pad-behind : (tag : Tag) → drop 48 (packed tag) ≡ tag .exchange .held .pad
-unfolding packed
-pad-behind tag = rw (head-length tag) at (drop-append-seam (bytesOf (fieldsOf tag)) (tag .exchange .held .pad))
-
-laid-out : (tag : Tag) → Fits tag → Laid tag (packed tag)
-unfolding fieldsOf singles wordsOf pairs eights offsetOf wordAt
-laid-out tag fits =
-    record {
-      size = length-packed tag (fits .size);
-      version = packed-byte tag fits 0 _ (omega arith) refl;
-      code = packed-byte tag fits 1 _ (omega arith) refl;
-      minute = packed-byte tag fits 2 _ (omega arith) refl;
-      mode = packed-byte tag fits 3 _ (omega arith) refl ∙ mode-told (tag .exchange .select .mode);
-      byte = packed-byte tag fits 10 _ (omega arith) refl;
-      bits = packed-byte tag fits 11 _ (omega arith) refl;
-      status = packed-byte tag fits 12 _ (omega arith) refl;
-      ending = packed-byte tag fits 13 _ (omega arith) refl;
-      pf = packed-byte tag fits 14 _ (omega arith) refl;
-      aa = packed-byte tag fits 15 _ (omega arith) refl;
-      reading = packed-field tag fits 16 (omega arith);
-      ta = packed-field tag fits 17 (omega arith);
-      crc = packed-field tag fits 18 (omega arith);
-      address = packed-field tag fits 19 (omega arith);
-      number = packed-field tag fits 20 (omega arith);
-      wait = packed-field tag fits 21 (omega arith);
-      field = packed-field tag fits 22 (omega arith);
-      pad = pad-behind tag;
-    }
-
-exactly-packed : (lent : List ℕ) → Bytes lent → (isPacked lent ≡ true) ↔ Packs lent
-exactly-packed lent bytes = (packs, λ p. rw (← p .bytes) (packed-is (p .tag) (p .fits)))
-  where
-    packs : isPacked lent ≡ true → Packs lent
-    packs e =
-        let own = own-of lent e in
-        record { tag = unpacked lent; fits = unpacked-fits lent bytes own; bytes = packed-unpacked lent bytes own }
 
 -- ---- a new tag
 
@@ -200,8 +157,8 @@ module _ (image lent words replies : List ℕ) (bytes : Bytes lent) where
           let left = list-leaves image (unpacked lent) words replies .refused (λ none. absurd (omega (arith, asked, none))) in
           (number ∙ rw asked, λ some more. (left .2, ap packed (left .0) ∙ packed-unpacked lent bytes (own-of lent good), left .3, left .1))
 
-  list-is : ListIs image lent replies (eventsCall image lent words replies) (listNumber image lent words replies)
-  unfolding ListIs ranged listNumber
+  list-is : ListIs image lent replies (eventsCall image lent words replies) (eventsNumber image lent words replies)
+  unfolding ListIs ranged eventsNumber
   list-is =
       dite (decLe (length words) (length replies))
       (λ room. dite (ℕ-discrete (length image) 8832)
@@ -238,14 +195,80 @@ module _ (image lent words replies : List ℕ) (bytes : Bytes lent) where
             bad,
           ) (refl, λ some more. (refl, refl, refl, refl))
 
+-- ---- the bytes of any record
+
+-- an image of another length is refused by both
+event-any : (image : List ℕ) (tag : Tag) (code reading : ℕ) → Fits tag →
+    eventCall image (packed tag) code reading ≡ stepped (step image tag code reading)
+unfolding step
+event-any image tag code reading fits =
+    dite (ℕ-discrete (length image) 8832)
+    (λ whole. event-step image (packed tag) code reading whole (packed-is tag fits) ∙ ap (λ t. stepped (step image t code reading)) (unpacked-packed tag fits))
+    (λ other. event-image image (packed tag) code reading other ∙ rw (ne-eqb (length image) 8832 other))
+
+events-any : (image : List ℕ) (tag : Tag) (words replies : List ℕ) → Fits tag →
+    eventsCall image (packed tag) words replies ≡ done (listed image tag words replies)
+unfolding listed
+events-any image tag words replies fits =
+    dite (decLe (length words) (length replies))
+    (λ room. dite (ℕ-discrete (length image) 8832)
+    (λ whole.
+    events-done image (packed tag) words replies room whole (packed-is tag fits)
+    ∙ ap (λ t. done (listed image t words replies)) (unpacked-packed tag fits))
+    (λ other. events-image image (packed tag) words replies room other
+    ∙ rw (le-ltb (length replies) (length words) room, ne-eqb (length image) 8832 other)))
+    (λ full.
+    let few : length replies < length words = omega (arith, full) in
+    events-room image (packed tag) words replies few ∙ rw (lt-ltb (length replies) (length words) few))
+
+zeros-fit : Fits (sentences.clearTag 0 0)
+unfolding fieldsOf singles wordsOf pairs eights AllFit
+zeros-fit =
+    fits-of (sentences.clearTag 0 0)
+    (record {
+      code = omega arith;
+      minute = omega arith;
+      choosing = bytes-blank 3;
+      stage = bytes-blank 3;
+      byte = omega arith;
+      bits = omega arith;
+      status = omega arith;
+      ending = omega arith;
+      reading = omega arith;
+      ta = omega arith;
+      crc = omega arith;
+      address = omega arith;
+      number = omega arith;
+      wait = omega arith;
+      field = omega arith;
+      pad = refl;
+      pad-bytes = bytes-blank 32;
+    })
+
+digit-bit : (b : Bool) → digit b < 2
+digit-bit true = omega arith
+digit-bit false = omega arith
+
+line-bit : (image lent : List ℕ) (code reading : ℕ) → eventCall image lent code reading .line < 2
+unfolding eventCall
+line-bit image lent code reading = by (eqb (length image) 8832) (isPacked lent)
+  where
+    by : (whole good : Bool) →
+        (if not whole then noEvent Answer.ImageLength image lent
+        else if not good then noEvent Answer.RecordRange image lent
+        else stepped (step image (unpacked lent) code reading)) .line < 2
+    by false good = omega arith
+    by true false = omega arith
+    by true true = digit-bit (step image (unpacked lent) code reading .answered .line)
+
 -- ---- a tag that is kept
 
 -- its bytes are a record's, of the tag
 kept-good : {image lent : List ℕ} {s : State} → Keeps image lent s → isPacked lent ≡ true
-kept-good {s = s} k = rw (k .lent-is) (packed-is (s .tag) (k .fits))
+kept-good {s = s} k = rw (k .lent-is) (packed-is (s .tag) (fits-of (s .tag) (k .holds)))
 
 kept-tag : {image lent : List ℕ} {s : State} → Keeps image lent s → unpacked lent ≡ s .tag
-kept-tag {s = s} k = rw (k .lent-is) (unpacked-packed (s .tag) (k .fits))
+kept-tag {s = s} k = rw (k .lent-is) (unpacked-packed (s .tag) (fits-of (s .tag) (k .holds)))
 
 kept-whole : {image lent : List ℕ} {s : State} → Keeps image lent s → length image ≡ 8832
 kept-whole k = rw (k .image-is) (reached-sound (k .reached) .size)
@@ -407,7 +430,7 @@ new-keeps image lent number code zero fits =
       reached = Reached.new image number code (number-accepts (sym (ap (λ (c : New). c .number) e) ∙ zero));
       image-is = ap (λ (c : New). c .image) e;
       lent-is = ap (λ (c : New). c .lent) e;
-      fits = fits size;
+      holds = holds-of (newTag image number code .answered .tag) (fits size);
     }
 
 event-keeps : {image lent : List ℕ} {s : State} (k : Keeps image lent s) (code reading : ℕ) →
@@ -423,7 +446,7 @@ event-keeps {s = s} k code reading fits =
         reached = reached-step (k .reached) code reading;
         image-is = ap (λ (c : Event). c .image) e;
         lent-is = ap (λ (c : Event). c .lent) e;
-        fits = rw (kept-tag k, k .image-is) at fits;
+        holds = holds-of _ (rw (kept-tag k, k .image-is) at fits);
       },
     )
 
@@ -446,7 +469,7 @@ list-keeps {image} {lent} {s} k words replies fits =
     room h =
         let r = batches .reached (k .reached) words replies in
         rw (list-kept k words replies h)
-        (r .0, refl, refl, record { reached = r .1; image-is = refl; lent-is = refl; fits = rw (kept-tag k, k .image-is) at (fits h) })
+        (r .0, refl, refl, record { reached = r .1; image-is = refl; lent-is = refl; holds = holds-of _ (rw (kept-tag k, k .image-is) at (fits h)) })
 
     few : (length words ≤ length replies → ⊥) → Told (eventsCall image lent words replies)
     few h =
@@ -456,40 +479,13 @@ list-keeps {image} {lent} {s} k words replies fits =
 
 -- ---- a slot to come
 
--- the two bytes tell what the cases do
-sends-codes : (choosing : Choosing) (stage : Stage) →
-    sendsBy (choosingCodes choosing .case) (stageCodes stage .case) ≡ sentences.sends choosing stage
-unfolding sendsBy sentences.sends
-sends-codes (Choosing.Reading at) stage = refl
-sends-codes (Choosing.Giving at) stage = refl
-sends-codes (Choosing.Complementing at) stage = refl
-sends-codes Choosing.Selected stage = by stage
-  where
-    by : (stage : Stage) → sendsBy 7 (stageCodes stage .case) ≡ sentences.sends Choosing.Selected stage
-    by Stage.Over = refl
-    by (Stage.Hears heard) = rw (hearing-case heard)
-    by (Stage.Gathers gathered) = rw (guarded-case gathered)
-    by (Stage.Sends sent) = rw (sending-case sent)
-    by Stage.Copied = refl
-sends-codes Choosing.Silent stage = refl
-sends-codes (Choosing.Command heard count) stage = refl
-sends-codes (Choosing.Matching fast at) stage = refl
-sends-codes (Choosing.Awaiting at) stage = refl
-
-sends-in : (tag : Tag) → Fits tag → sendsIn (packed tag) ≡ sentences.sends (tag .exchange .select .choosing) (tag .exchange .bus .stage)
-unfolding fieldsOf singles wordsOf pairs eights offsetOf
-sends-in tag fits =
-    let chosen : getD (packed tag) 4 0 ≡ choosingCodes (tag .exchange .select .choosing) .case = packed-byte tag fits 4 _ (omega arith) refl in
-    let staged : getD (packed tag) 7 0 ≡ stageCodes (tag .exchange .bus .stage) .case = packed-byte tag fits 7 _ (omega arith) refl in
-    rw (chosen, staged) (sends-codes (tag .exchange .select .choosing) (tag .exchange .bus .stage))
-
 ahead-of : {image lent : List ℕ} {s : State} → Keeps image lent s →
     (sendsIn lent ≡ true
     → (after s (runs.Event.slot false) ≡ after s (runs.Event.slot true)) × (after s (runs.Event.slot true) .image ≡ image))
     × (sendsIn lent ≡ false → lineBit s (runs.Event.slot true) ≡ true)
 ahead-of {image} {lent} {s} k =
     let fit = events .reached (k .reached) in
-    let told = sends-in (s .tag) (k .fits) in
+    let told = sends-in (s .tag) (fits-of (s .tag) (k .holds)) in
     (busy fit told, λ e. events .listens fit (sym told ∙ (rw (k .lent-is) at e)))
   where
     busy : Fit s → sendsIn (packed (s .tag)) ≡ sentences.sendsNow s → sendsIn lent ≡ true →
@@ -555,8 +551,8 @@ pub library : Library
 unfolding NewIs EventIs ListIs ListedIs
 library =
     record {
-      back = unpacked-packed;
-      laid = laid-out;
+      back = λ tag h. unpacked-packed tag (fits-of tag h);
+      laid = λ tag h. (packed-bytes tag (h .pad-bytes), laid-out tag (fits-of tag h));
       exactly = exactly-packed;
       any-new = λ κs image lent number code. tt;
       any-event = λ κs image lent code reading line. tt;
@@ -581,6 +577,31 @@ library =
                 let left = is .1 (λ none. some (p .0 ∙ is .0 ∙ none)) (λ one. more (p .0 ∙ is .0 ∙ one)) in
                 (p .1 .0 ∙ left .0, p .1 .1 .0 ∙ left .1, p .1 .1 .1 .0 ∙ left .2, p .1 .1 .1 .1 .0 ∙ left .3),
           );
+      makes = λ κs image lent number code r exit p size.
+          let e = new-made (now image) (now lent) number code size in
+          (p .0 ∙ ap (λ (c : New). c .number) e, p .1 .0 ∙ ap (λ (c : New). c .image) e, p .1 .1 .0 ∙ ap (λ (c : New). c .lent) e);
+      steps = λ κs image lent code reading line r exit p packs.
+          let e = ap (λ (l : List ℕ). eventCall (now image) l code reading) (packs .bytes)
+          ∙ event-any (now image) (packs .tag) code reading (fits-of (packs .tag) (packs .holds)) in (
+            p .0 ∙ ap (λ (c : Event). c .number) e,
+            p .1 .0 ∙ ap (λ (c : Event). c .image) e,
+            p .1 .1 .0 ∙ ap (λ (c : Event). c .lent) e,
+            p .1 .1 .1 .0 ∙ ap (λ (c : Event). c .line) e,
+          );
+      does = λ κs image lent words replies count r exit p packs.
+          let e = ap (λ (l : List ℕ). eventsCall (now image) l (now words) (now replies)) (packs .bytes)
+          ∙ events-any (now image) (packs .tag) (now words) (now replies) (fits-of (packs .tag) (packs .holds)) in (
+            p .0 ∙ ap (λ (c : Events). c .number) e,
+            p .1 .0 ∙ ap (λ (c : Events). c .image) e,
+            p .1 .1 .0 ∙ ap (λ (c : Events). c .lent) e,
+            p .1 .1 .1 .0 ∙ ap (λ (c : Events). c .replies) e,
+            p .1 .1 .1 .1 .0 ∙ ap (λ (c : Events). c .done) e,
+          );
+      line = λ κs image lent code reading line r exit p. rw (p .1 .1 .1 .0) (line-bit (now image) (now lent) code reading);
+      zeros = λ κs image lent code reading line r exit p e.
+          let all = ap (λ (l : List ℕ). eventCall (now image) l code reading) (e ∙ sym zeros-packed)
+          ∙ event-any (now image) (sentences.clearTag 0 0) code reading zeros-fit in
+          p .0 ∙ ap (λ (c : Event). c .number) all ∙ events .zeros (now image) code reading;
       dumps = λ κs text places head r exit p.
           let is = listed-is (now text) (now places) (now head) in
           let n = p .0 ∙ is .0 in (
@@ -602,7 +623,7 @@ library =
       ahead = ahead-of;
       event-not-6 = λ κs image lent code reading line r exit p from six.
           own-not-6 code reading (sym (kept-event κs image lent code reading line r exit p (kept-from from .keeps) .0) ∙ six);
-      list-not-6 = λ κs image lent words replies count r exit p from six.
+      events-not-6 = λ κs image lent words replies count r exit p from six.
           list-not-six (ltb (length (now replies)) (length (now words))) (eqb (length (eventsOf (now words))) (length (now words)))
           (sym (kept-list κs image lent words replies count r exit p (kept-from from .keeps) .0) ∙ six);
     }
