@@ -3,10 +3,10 @@
 -- of a tag that is reached by events: so 6 never comes, and what is said of runs, demands 2 and 3 too, is said of the C calls. `library`
 -- in Library/Proof.antt proves it. Assumes nothing.
 use mathlib.Core.Bool.{Bool, true, false, not, _&&_, _||_}
-use mathlib.Core.List.{List, [], _∷_, map}
+use mathlib.Core.List.{List, [], _∷_, _++_, map}
 use mathlib.Core.Logic.{_≢_, _↔_}
 use mathlib.Core.Path.{_≡_}
-use Prim.Native.Nat.{ℕ, zero, suc, _+_, _-_, _*_, _<_}
+use Prim.Native.Nat.{ℕ, zero, suc, _+_, _-_, _*_, _≤_, _<_}
 use lib.Dec.{eqb, ltb}
 use lib.IntN.{ℤ, pos, negsuc}
 use lib.ListN.{length, getD, replicate, take, drop}
@@ -15,7 +15,7 @@ use Rattle.bagtag.proofs.bagtag_event.Reads as bagtag-event
 use Rattle.bagtag.proofs.bagtag_events.Reads as bagtag-events
 use Rattle.bagtag.proofs.bagtag_list.Reads as bagtag-list
 use Rattle.bagtag.proofs.bagtag_new.Reads as bagtag-new
-use Rattle.batch.specs.Batch.{Listed, listed}
+use Rattle.batch.specs.Batch.{listed}
 use Rattle.bus.specs.declared.Addressed.{Addressed}
 use Rattle.bus.specs.declared.Control.{Control}
 use Rattle.bus.specs.declared.Guarded.{Guarded}
@@ -30,8 +30,9 @@ use Rattle.record.specs.declared.Tag.{Tag}
 use Rattle.select.specs.declared.Choosing.{Choosing}
 use Rattle.tag.specs.Tag.{newTag, step}
 use Rattle.promises.specs.Batches.{eventsOf}
+use Rattle.promises.specs.Calls.{Meaning, meaningOf}
 use Rattle.promises.specs.Ranges.{isRom, isConfiguration, inRange}
-use Rattle.promises.specs.Runs.{State, Event, leaves, after, lineBit, Reached}
+use Rattle.promises.specs.Runs.{State, Event, leaves, after, lineBit, run, Reached}
 use Rattle.promises.specs.Sentences.Dump.{dumpNumber}
 use Rattle.promises.specs.Sentences.Events.{numberIn, ownNumber}
 use Rattle.promises.specs.Words.{if_then_else_, markIn, speedIn}
@@ -237,6 +238,30 @@ pub data FromNew : List ℕ → List ℕ → Type 2 where
       bagtag-events.Post κs (image, (lent, (words, (replies, (done, tt))))) r exit →
       FromNew (now image) (now lent) → FromNew (now (exit .0)) (now (exit .1 .0))
 
+-- calls with any codes, readings and words, each on what the one before it left: the events that were taken, their line bits, and between
+-- them whatever was refused. `Meaning` is what a code and a reading are taken for
+pub data Chain : List ℕ → List ℕ → List Event → List Bool → List ℕ → List ℕ → Type 2 where
+  none : {image lent : List ℕ} → Chain image lent [] [] image lent
+  taken : (κs : _) (image : _) (lent : _) (code reading : ℕ) (line : _) (r : ℕ) (exit : _) →
+      bagtag-event.Post κs (image, (lent, (code, (reading, (line, tt))))) r exit → {e : Event} → meaningOf code reading ≡ Meaning.taken e →
+      (bit : Bool) → now (exit .1 .1 .1 .1 .0) ≡ digitOf bit → {es : List Event} {bits : List Bool} {end left : List ℕ} →
+      Chain (now (exit .0)) (now (exit .1 .0)) es bits end left → Chain (now image) (now lent) (e ∷ es) (bit ∷ bits) end left
+  refused : (κs : _) (image : _) (lent : _) (code reading : ℕ) (line : _) (r : ℕ) (exit : _) →
+      bagtag-event.Post κs (image, (lent, (code, (reading, (line, tt))))) r exit → meaningOf code reading ≡ Meaning.refused →
+      {es : List Event} {bits : List Bool} {end left : List ℕ} →
+      Chain (now (exit .0)) (now (exit .1 .0)) es bits end left → Chain (now image) (now lent) es bits end left
+  -- a list gives all its events up to a refused word; one with too few reply bytes is refused whole
+  many : (κs : _) (image : _) (lent : _) (words : _) (replies : _) (done : _) (r : ℕ) (exit : _) →
+      bagtag-events.Post κs (image, (lent, (words, (replies, (done, tt))))) r exit → length (now words) ≤ length (now replies) →
+      (seen : List Bool) → take (now (exit .1 .1 .1 .1 .0)) (now (exit .1 .1 .1 .0)) ≡ map digitOf seen →
+      {es : List Event} {bits : List Bool} {end left : List ℕ} →
+      Chain (now (exit .0)) (now (exit .1 .0)) es bits end left →
+      Chain (now image) (now lent) (eventsOf (now words) ++ es) (seen ++ bits) end left
+  few : (κs : _) (image : _) (lent : _) (words : _) (replies : _) (done : _) (r : ℕ) (exit : _) →
+      bagtag-events.Post κs (image, (lent, (words, (replies, (done, tt))))) r exit → length (now replies) < length (now words) →
+      {es : List Event} {bits : List Bool} {end left : List ℕ} →
+      Chain (now (exit .0)) (now (exit .1 .0)) es bits end left → Chain (now image) (now lent) es bits end left
+
 -- ---- what holds
 
 -- `bagtag-new.Post`, `bagtag-event.Post` and so on are the contracts of the C functions as the source states them, over lifetimes, arguments, result and
@@ -319,6 +344,10 @@ pub record Library : Type 2 where
       × (now (exit .1 .1 .1 .0) ≡ l .replies) × (now (exit .1 .1 .1 .1 .0) ≡ l .batch .done)
       × Keeps (now (exit .0)) (now (exit .1 .0)) (record { image = l .image; tag = l .batch .tag })
   pub kept : {image lent : List ℕ} → FromNew image lent → KeptTag image lent
+  -- and calls one after the other give the line bits of `run`, and keep the state that it ends in: so what demands 2 and 3 say of runs is
+  -- said of them
+  pub runs : {image lent end left : List ℕ} {es : List Event} {bits : List Bool} {s : State} → Keeps image lent s →
+      Chain image lent es bits end left → (run s es .line ≡ bits) × Keeps end left (run s es .state)
   -- what an interrupt may go by before it knows the master's bit: a tag that sends leaves the same whatever the master does, and the
   -- image as it is; one that doesn't gives 1
   pub ahead : {image lent : List ℕ} {s : State} → Keeps image lent s →

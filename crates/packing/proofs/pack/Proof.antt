@@ -1,9 +1,8 @@
 -- `packing::pack` meets its contract: the bytes, the words, the scratchpad. Assumes nothing.
 use mathlib.Core.List.{map}
-use mathlib.Core.Path.{_≡_}
 use borrow.Author.Needs.{needs}
 use Rattle.bits.specs.Bytes.{Bytes}
-use Rattle.packing.specs.Packing.{byte, singles, wordsOf, fieldsOf, packed, Fits}
+use Rattle.packing.specs.Packing.{byte, singles, wordsOf, fieldsOf}
 use Rattle.packing.specs.Packing.Fields.{fit-append, fit-singles}
 use Rattle.packing.specs.Packing.Laws.{tag-stored}
 use Rattle.packing.proofs.pack.Statement.{statement}

@@ -1,28 +1,22 @@
 -- What is packed is unpacked, and the bytes that are a record's are exactly those that some record packs to. Assumes nothing.
-use mathlib.Core.Path.{_≡_, refl, sym, _∙_, ap, subst}
-use mathlib.Core.Bool.{true, false, not, _&&_, and-eq-true-iff}
+use mathlib.Core.Path.{_≡_, refl, sym, _∙_, ap}
+use mathlib.Core.Bool.{true, and-eq-true-iff}
 use mathlib.Core.List.{List, [], _∷_, _++_, map}
-use Prim.Native.Nat.{ℕ, zero, suc, _+_, _^_, _<_}
+use Prim.Native.Nat.{ℕ, _+_, _<_}
 use native.Mathlib.Omega.{arith}
-use native.Mathlib.Nat.{add-zero}
 use borrow.Author.Tests.{eqb-true, eq-eqb}
 use lib.Dec.{eqb}
 use lib.ListN.{length, getD, length-append}
 use lib.Seq.{sets}
 use Rattle.bits.specs.Bits.{digit}
 use Rattle.bits.specs.Bytes.{Bytes}
-use Rattle.bits.specs.Choose.{if_then_else_}
 use Rattle.bits.specs.Stores.{sets-join}
 use Rattle.image.specs.Fields.{wordAt}
-use Rattle.bus.specs.declared.Bus.{Bus}
-use Rattle.bus.specs.declared.Held.{Held}
-use Rattle.exchange.specs.declared.Exchange.{Exchange}
 use Rattle.record.specs.declared.Tag.{Tag}
-use Rattle.record.specs.Record.{freshTag}
 use Rattle.packing.specs.declared.Coded.{Coded}
 use Rattle.packing.specs.Codes.{codedAs, choosingCodes, choosingOf, modeCode, modeOf, stageCodes, stageOf, isChoosing, isStage, isMode, isFlag}
 use Rattle.packing.specs.Codes.Laws.{choosing-back, stage-back, mode-back, flag-back, own-choosing, own-stage, own-mode, own-flag, choosing-again, stage-again, mode-again, flag-again}
-use Rattle.packing.specs.Packing.{Field, byte, pair, eight, version, bytesOf, singles, pairs, eights, wordsOf, fieldsOf, packed, AllFit, Fits, bytesFrom, choosingIn, stageIn, isPacked, countersIn, selectIn, heldIn, busIn, exchangeIn, unpacked}
+use Rattle.packing.specs.Packing.{byte, pair, eight, version, bytesOf, singles, pairs, eights, wordsOf, fieldsOf, packed, Fits, bytesFrom, choosingIn, stageIn, isPacked, countersIn, selectIn, heldIn, busIn, exchangeIn, unpacked}
 use Rattle.packing.specs.Packing.Fields.{word-one, offsetOf, field-back, widthsOf, length-fields, stores, stores-sets, bytes-append, append-bytes, fields-bytes, bytes-singles, fit-singles, bytes-all, bytes-past, bytes-join, bytes-again, fieldsIn, fields-fit, sum, length-bytes, bytes-are}
 
 -- ---- storing

@@ -12,6 +12,7 @@ use lib.IntN.{ℤ}
 use lib.ListN.{length, getD, take, drop, length-map}
 use lib.Seq.{take-at}
 use denote.Ref.{now}
+use Rattle.batch.specs.Batch.{Listed}
 use Rattle.bits.specs.Bits.{digit}
 use Rattle.bits.specs.Bits.Laws.{digit-same}
 use Rattle.bits.specs.Choose.{if_then_else_}
@@ -19,7 +20,7 @@ use Rattle.record.specs.declared.Answered.{Answered}
 use Rattle.record.specs.Record.{Outcome}
 use Rattle.tag.specs.Tag.{eventOf, step}
 use Rattle.tag.specs.Tag.Laws.{step-taken, event-tick, event-reading, event-other}
-use Rattle.promises.specs.Batches.{eventsOf, askedNumber}
+use Rattle.promises.specs.Batches.{eventsOf, askedNumber, Leaves}
 use Rattle.promises.specs.Batches.Words.{asked-none}
 use Rattle.promises.specs.Batches.Proof.{batches}
 use Rattle.promises.specs.Calls.{Made, Called, Handed, Meaning, meaningOf, Chain, Calls}
@@ -68,14 +69,24 @@ step-gives {s} sound code reading =
         rw (event-other (s .image) (s .tag) code reading (omega (arith, eqb-false code 0 p, eqb-false code 1 q)) (eqb-false code 2 r) (eqb-false code 3 t) (eqb-false code 4 f))
         (refl, refl)
 
--- so a reached state leads to reached states, whatever comes
-pub reached-step : {s : State} → Reached s → (code reading : ℕ) → Reached (leaves (step (s .image) (s .tag) code reading))
-unfolding Gives after
-reached-step {s} reached code reading = by (meaningOf code reading) (step-gives (reached-sound reached) code reading)
-  where
-    by : (m : Meaning) → Gives s (step (s .image) (s .tag) code reading) m → Reached (leaves (step (s .image) (s .tag) code reading))
-    by (Meaning.taken e) given = subst Reached (ap leaves (sym given)) (reached-after reached e)
-    by Meaning.refused given = subst Reached (sym (given .1)) reached
+-- of a reached state: an event that is taken, one that is refused, and a reached state again whatever comes
+module _ {s : State} (reached : Reached s) (code reading : ℕ) where
+  pub step-taken-is : {e : Event} → meaningOf code reading ≡ Meaning.taken e → step (s .image) (s .tag) code reading ≡ happens s e
+  unfolding Gives
+  step-taken-is m = subst (Gives s (step (s .image) (s .tag) code reading)) m (step-gives (reached-sound reached) code reading)
+
+  pub step-refused-is : meaningOf code reading ≡ Meaning.refused →
+      (step (s .image) (s .tag) code reading .answered .line ≡ true) × (leaves (step (s .image) (s .tag) code reading) ≡ s)
+  unfolding Gives
+  step-refused-is m = subst (Gives s (step (s .image) (s .tag) code reading)) m (step-gives (reached-sound reached) code reading)
+
+  pub reached-step : Reached (leaves (step (s .image) (s .tag) code reading))
+  unfolding after
+  reached-step = by (meaningOf code reading) refl
+    where
+      by : (m : Meaning) → meaningOf code reading ≡ m → Reached (leaves (step (s .image) (s .tag) code reading))
+      by (Meaning.taken e) m = subst Reached (ap leaves (sym (step-taken-is m))) (reached-after reached e)
+      by Meaning.refused m = subst Reached (sym (step-refused-is m .1)) reached
 
 -- what a call that met its contract saw and left is the definition's
 called-step : {s t : State} {code reading : ℕ} {bit : Bool} → Called s code reading bit t →
@@ -87,20 +98,16 @@ called-step {s} {code = code} {reading = reading} (Called.called κs image r exi
     (ap (λ (a : Answered). a .line) answered, λ i. record { image = left i; tag = answered i .tag })
 
 module _ {s t : State} {code reading : ℕ} {bit : Bool} (reached : Reached s) (call : Called s code reading bit t) where
-  call-gives : Gives s (step (s .image) (s .tag) code reading) (meaningOf code reading)
-  call-gives = step-gives (reached-sound reached) code reading
-
   call-taken : {e : Event} → meaningOf code reading ≡ Meaning.taken e → (bit ≡ lineBit s e) × (t ≡ after s e)
-  unfolding Gives after
+  unfolding after
   call-taken {e} m =
-      let given = subst (Gives s (step (s .image) (s .tag) code reading)) m call-gives in
+      let given = step-taken-is reached code reading m in
       let seen = called-step call in
       (seen .0 ∙ ap (λ (o : Outcome). o .answered .line) given, seen .1 ∙ ap leaves given)
 
   call-refused : meaningOf code reading ≡ Meaning.refused → (bit ≡ true) × (t ≡ s)
-  unfolding Gives
   call-refused m =
-      let given = subst (Gives s (step (s .image) (s .tag) code reading)) m call-gives in
+      let given = step-refused-is reached code reading m in
       let seen = called-step call in
       (seen .0 ∙ given .0, seen .1 ∙ given .1)
 
@@ -119,18 +126,23 @@ digits-injective (a ∷ bits) (b ∷ others) e =
     let rest : bits ≡ others = digits-injective bits others (ap (drop 1) e) in
     λ i. first i ∷ rest i
 
--- one with room for its replies is a run of its events
+-- one that is not refused whole is a run of its events
+pub leaves-taken : {s : State} {words replies : List ℕ} {l : Listed} (bits : List Bool) → Leaves (s .image) (s .tag) words replies l →
+    askedNumber (s .image) (s .tag) words replies ≡ 0 → take (l .batch .done) (l .replies) ≡ map digit bits →
+    run s (eventsOf words) ≡ record { line = bits; state = record { image = l .image; tag = l .batch .tag } }
+leaves-taken {s} {words} {replies} {l} bits left asked seen =
+    let same = left .same asked in
+    let line = run s (eventsOf words) .line in
+    let first : take (length (eventsOf words)) (l .replies) ≡ map digit line =
+    rw (left .bits asked) (take-at (map digit line) _ (length (eventsOf words)) (length-map line digit ∙ line-length s (eventsOf words))) in
+    let told = digits-injective line bits (sym first ∙ ap (λ (n : ℕ). take n (l .replies)) (sym (same .2)) ∙ seen) in
+    λ i. record { line = told i; state = record { image = sym (same .1) i; tag = sym (same .0) i } }
+
 list-taken : {s t : State} {words : List ℕ} {room : ℕ} {bits : List Bool} → Reached s → Handed s words room bits t →
     length words ≤ room → run s (eventsOf words) ≡ record { line = bits; state = t }
 list-taken {s} {words = words} reached (Handed.handed κs image lent replies r exit bits p e f seen) h =
     let left = rw (e, f) at (batches .lists κs image (s .tag) lent replies r exit p .1) in
-    let asked = asked-none (reached-sound reached) words (now replies) h in
-    let same = left .same asked in
-    let line = run s (eventsOf words) .line in
-    let first : take (length (eventsOf words)) (now (exit .1 .1 .1 .0)) ≡ map digit line =
-    rw (left .bits asked) (take-at (map digit line) _ (length (eventsOf words)) (length-map line digit ∙ line-length s (eventsOf words))) in
-    let told = digits-injective line bits (sym first ∙ ap (λ (n : ℕ). take n (now (exit .1 .1 .1 .0))) (sym (same .2)) ∙ seen) in
-    λ i. record { line = told i; state = record { image = sym (same .1) i; tag = sym (same .0) i } }
+    leaves-taken bits left (asked-none (reached-sound reached) words (now replies) h) seen
 
 -- one without leaves everything
 list-few : {s t : State} {words : List ℕ} {room : ℕ} {bits : List Bool} → Handed s words room bits t → room < length words → t ≡ s

@@ -1,9 +1,9 @@
 -- The library's calls are the tag's and the dock's, through a record's bytes. Assumes nothing.
-use mathlib.Core.Bool.{Bool, true, false, not, _&&_, false≢true}
-use mathlib.Core.List.{List, [], _∷_, _++_, append-assoc}
-use mathlib.Core.Logic.{_≢_, _↔_, dite}
+use mathlib.Core.Bool.{Bool, true, false, not, _&&_}
+use mathlib.Core.List.{List, _∷_, _++_, map, append-assoc}
+use mathlib.Core.Logic.{_≢_, dite}
 use mathlib.Core.Path.{_≡_, refl, sym, ap, subst, _∙_}
-use Prim.Native.Nat.{ℕ, suc, _+_, _-_, _*_, _^_, _≤_, _<_}
+use Prim.Native.Nat.{ℕ, suc, _+_, _-_, _*_, _≤_, _<_}
 use native.Mathlib.Decide.{ℕ-discrete, decLe}
 use native.Mathlib.Omega.{arith}
 use borrow.Author.Tests.{eq-eqb, ne-eqb, lt-ltb, le-ltb}
@@ -17,47 +17,44 @@ use Rattle.answer.specs.declared.Answer.{Answer}
 use Rattle.bagtag.proofs.bagtag_event.Reads as bagtag-event
 use Rattle.bagtag.proofs.bagtag_events.Reads as bagtag-events
 use Rattle.bagtag.proofs.bagtag_new.Reads as bagtag-new
-use Rattle.bagtag.specs.Bagtag.{New, Event, Events, Listed, made, notMade, newCall, noEvent, stepped, eventCall, noEvents, done, eventsCall, countsOf, headOf, HeadFits, roomNumber, listCall}
+use Rattle.bagtag.specs.Bagtag.{New, Event, Events, Listed, made, newCall, noEvent, stepped, eventCall, done, eventsCall, countsOf, headOf, HeadFits, roomNumber, listCall}
 use Rattle.bagtag.specs.Bagtag.Laws.{new-made, new-image, new-lent, event-image, event-lent, event-step, events-room, events-image, events-lent, events-done, room-any, list-short, list-accepted, list-refused}
 use Rattle.batch.specs.Batch.{listed}
 use Rattle.batch.specs.Batch.Laws as laws
 use Rattle.bits.specs.Bits.{digit}
+use Rattle.bits.specs.Bits.Laws.{digit-same}
 use Rattle.bits.specs.Bytes.{bytes-blank}
 use Rattle.dock.specs.declared.Listing.{Listing}
 use Rattle.dock.specs.Entries.{periodOf}
 use Rattle.dock.specs.Listing.{answerOf, isAccepted, listingOf, temperaturesOf, secondsAt}
 use Rattle.dock.specs.Listing.Laws.{answer-listing}
 use Rattle.image.specs.Fields.{wordAt}
-use Rattle.bus.specs.declared.Stage.{Stage}
-use Rattle.packing.specs.Codes.{modeCode, choosingCodes, stageCodes}
-use Rattle.packing.specs.Codes.Laws.{hearing-case, guarded-case, sending-case}
 use Rattle.packing.specs.Packing.{byte, Fits, AllFit, bytesOf, fieldsOf, singles, pairs, eights, wordsOf, lowFirst, packed, isPacked, unpacked}
 use Rattle.packing.specs.Packing.Fields.{offsetOf, field-back, word-past, widthsOf, length-fields}
 use Rattle.packing.specs.Packing.Laws.{packed-bytes, unpacked-packed, packed-is, own-of, packed-unpacked}
 use Rattle.record.specs.declared.Tag.{Tag}
 use Rattle.record.specs.Record.{Outcome}
-use Rattle.select.specs.declared.Choosing.{Choosing}
-use Rattle.select.specs.declared.Mode.{Mode}
 use Rattle.tag.specs.Tag.{newTag, step}
 use Rattle.text.specs.Text.{twosComplement}
 use Rattle.promises.specs.Batches.{eventsOf, askedNumber, firstOf}
-use Rattle.promises.specs.Batches.Words.{list-leaves}
+use Rattle.promises.specs.Batches.Words.{asked-none, list-leaves}
 use Rattle.promises.specs.Batches.Proof.{batches}
-use Rattle.promises.specs.Calls.Proof.{reached-step}
+use Rattle.promises.specs.Calls.{Meaning, meaningOf}
+use Rattle.promises.specs.Calls.Proof.{reached-step, step-taken-is, step-refused-is, leaves-taken}
 use Rattle.promises.specs.Demand1.{demand1}
 use Rattle.promises.specs.Library.Record.{fits-of, holds-of, laid-out, exactly-packed, sends-in}
-use Rattle.promises.specs.Library.{digitOf, sendsIn, Bytes, newNumber, eventNumber, eventsNumber, dumpsNumber, signed64, HeadLaid, Keeps, KeptTag, FromNew, Library}
+use Rattle.promises.specs.Library.{digitOf, sendsIn, Bytes, newNumber, eventNumber, eventsNumber, dumpsNumber, signed64, HeadLaid, Keeps, KeptTag, FromNew, Chain, Library}
 use Rattle.promises.specs.Ranges.{isRom, isConfiguration, inRange, Fit}
 use Rattle.promises.specs.Runs as runs
-use Rattle.promises.specs.Runs.{State, leaves, after, lineBit, Reached}
-use Rattle.promises.specs.Runs.Laws.{reached-sound}
+use Rattle.promises.specs.Runs.{State, leaves, after, lineBit, run, Reached}
+use Rattle.promises.specs.Runs.Laws.{reached-sound, run-append}
 use Rattle.promises.specs.Sentences.Dump.{dumpNumber}
 use Rattle.promises.specs.Sentences.Dump.Proof.{dump}
 use Rattle.promises.specs.Sentences.Events as sentences
 use Rattle.promises.specs.Sentences.Events.{numberIn, ownNumber}
 use Rattle.promises.specs.Sentences.Events.Slots.{slot-spares}
 use Rattle.promises.specs.Sentences.Events.Proof.{events, number-accepts}
-use Rattle.promises.specs.Words.{if_then_else_, markIn, speedIn}
+use Rattle.promises.specs.Words.{if_then_else_}
 
 -- ---- a new tag
 
@@ -547,6 +544,78 @@ kept-from (FromNew.event κs image lent code reading line r exit p from) = event
 kept-from (FromNew.events κs image lent words replies count r exit p from) =
     list-on κs image lent words replies count r exit p (kept-from from)
 
+-- what a chain ends with
+record Ended (s : State) (es : List runs.Event) (bits : List Bool) (end left : List ℕ) : Type 0 where
+  pub line : run s es .line ≡ bits
+  pub keeps : Keeps end left (run s es .state)
+
+-- an event in front of it
+ended-taken : {s : State} (e : runs.Event) {es : List runs.Event} {bit : Bool} {bits : List Bool} {end left : List ℕ} → lineBit s e ≡ bit →
+    Ended (after s e) es bits end left → Ended s (e ∷ es) (bit ∷ bits) end left
+unfolding run
+ended-taken e same rest = record { line = λ i. same i ∷ rest .line i; keeps = rest .keeps }
+
+-- a run in front of it
+ended-many : {s t : State} (first : List runs.Event) {es : List runs.Event} (seen : List Bool) {bits : List Bool} {end left : List ℕ} →
+    run s first ≡ record { line = seen; state = t } → Ended t es bits end left → Ended s (first ++ es) (seen ++ bits) end left
+ended-many {s} {t} first {es} seen ran rest =
+    let whole = run-append s first es in
+    let after-first : run (run s first .state) es ≡ run t es = ap (λ (r : runs.Ran). run (r .state) es) ran in
+    record {
+      line = ap (λ (r : runs.Ran). r .line) whole
+          ∙ (λ i. ran i .line ++ after-first i .line)
+          ∙ ap (λ (l : List Bool). seen ++ l) (rest .line);
+      keeps = subst (Keeps _ _) (sym (ap (λ (r : runs.Ran). r .state) whole ∙ ap (λ (r : runs.Ran). r .state) after-first)) (rest .keeps);
+    }
+
+module _ {s : State} (κs : _) (image : _) (lent : _) (code reading : ℕ) (line : _) (r : ℕ) (exit : _)
+    (p : bagtag-event.Post κs (image, (lent, (code, (reading, (line, tt))))) r exit) (k : Keeps (now image) (now lent) s) where
+  taken-keeps : {e : runs.Event} → meaningOf code reading ≡ Meaning.taken e → Keeps (now (exit .0)) (now (exit .1 .0)) (after s e)
+  unfolding after
+  taken-keeps m =
+      rw (ap leaves (step-taken-is (k .reached) code reading m)) at (kept-event κs image lent code reading line r exit p k .2)
+
+  taken-line : {e : runs.Event} → meaningOf code reading ≡ Meaning.taken e → (bit : Bool) → now (exit .1 .1 .1 .1 .0) ≡ digitOf bit →
+      lineBit s e ≡ bit
+  taken-line m bit told =
+      digit-same _ bit
+      (ap (λ (o : Outcome). digit (o .answered .line)) (sym (step-taken-is (k .reached) code reading m))
+      ∙ sym (kept-event κs image lent code reading line r exit p k .1) ∙ told)
+
+  refused-keeps : meaningOf code reading ≡ Meaning.refused → Keeps (now (exit .0)) (now (exit .1 .0)) s
+  refused-keeps m = rw (step-refused-is (k .reached) code reading m .1) at (kept-event κs image lent code reading line r exit p k .2)
+
+module _ {s : State} (κs : _) (image : _) (lent : _) (words : _) (replies : _) (count : _) (r : ℕ) (exit : _)
+    (p : bagtag-events.Post κs (image, (lent, (words, (replies, (count, tt))))) r exit) (k : Keeps (now image) (now lent) s) where
+  many-ran : length (now words) ≤ length (now replies) → (seen : List Bool) →
+      take (now (exit .1 .1 .1 .1 .0)) (now (exit .1 .1 .1 .0)) ≡ map digitOf seen →
+      let l = listed (s .image) (s .tag) (now words) (now replies) in
+      run s (eventsOf (now words)) ≡ record { line = seen; state = record { image = l .image; tag = l .batch .tag } }
+  many-ran room seen told =
+      let left = kept-list κs image lent words replies count r exit p k in
+      leaves-taken seen (list-leaves (s .image) (s .tag) (now words) (now replies))
+      (asked-none (reached-sound (k .reached)) (now words) (now replies) room)
+      (rw (left .1, left .2) at told)
+
+  few-keeps : length (now replies) < length (now words) → Keeps (now (exit .0)) (now (exit .1 .0)) s
+  few-keeps short =
+      rw (laws.list-few (s .image) (s .tag) (now words) (now replies) short) at (kept-list κs image lent words replies count r exit p k .3)
+
+chain-runs : {image lent end left : List ℕ} {es : List runs.Event} {bits : List Bool} {s : State} → Keeps image lent s →
+    Chain image lent es bits end left → Ended s es bits end left
+unfolding run
+chain-runs k Chain.none = record { line = refl; keeps = k }
+chain-runs k (Chain.taken κs image lent code reading line r exit p {e} m bit told rest) =
+    ended-taken e (taken-line κs image lent code reading line r exit p k m bit told)
+    (chain-runs (taken-keeps κs image lent code reading line r exit p k m) rest)
+chain-runs k (Chain.refused κs image lent code reading line r exit p m rest) =
+    chain-runs (refused-keeps κs image lent code reading line r exit p k m) rest
+chain-runs k (Chain.many κs image lent words replies count r exit p room seen told rest) =
+    ended-many (eventsOf (now words)) seen (many-ran κs image lent words replies count r exit p k room seen told)
+    (chain-runs (kept-list κs image lent words replies count r exit p k .3) rest)
+chain-runs k (Chain.few κs image lent words replies count r exit p short rest) =
+    chain-runs (few-keeps κs image lent words replies count r exit p k short) rest
+
 pub library : Library
 unfolding NewIs EventIs ListIs ListedIs
 library =
@@ -620,6 +689,7 @@ library =
       stepped = kept-event;
       done = kept-list;
       kept = kept-from;
+      runs = λ k chain. let e = chain-runs k chain in (e .line, e .keeps);
       ahead = ahead-of;
       event-not-6 = λ κs image lent code reading line r exit p from six.
           own-not-6 code reading (sym (kept-event κs image lent code reading line r exit p (kept-from from .keeps) .0) ∙ six);

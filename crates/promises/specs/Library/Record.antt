@@ -6,8 +6,7 @@ use mathlib.Core.Logic.{_↔_}
 use mathlib.Core.Path.{_≡_, refl, sym, subst, _∙_}
 use Prim.Native.Nat.{ℕ, zero, suc, _+_, _*_, _<_}
 use native.Mathlib.Omega.{arith}
-use lib.Dec.{eqb}
-use lib.ListN.{length, getD, drop}
+use lib.ListN.{getD, drop}
 use lib.Seq.{drop-append-seam}
 use Rattle.bits.specs.Bits.{digit}
 use Rattle.bus.specs.declared.Guarded.{Guarded}
