@@ -1,0 +1,126 @@
+"""Deliberate faults of the library, its header and the firmware, each a line or two changed in a copy of the sources, to show
+that tests/library would catch them.
+
+A fault names the file, and texts, each of which must stand there exactly once, with what takes their place.
+"""
+
+import collections
+import shutil
+from typing import NamedTuple
+
+from . import cases, listed, played, programs, throws
+from .builds import CRATE, EXAMPLES, TOP, Builds, kit
+from .face import guarded
+
+SESSIONS, DUMPS, THROWS = 28, 18, 4000
+BAGTAG, PACKING, CODES = (f"crates/{name}.rt" for name in ("bagtag/src/lib", "packing/src/lib", "packing/src/codes"))
+HEADER = "include/bagtag.h"
+
+
+class Fault(NamedTuple):
+    name: str
+    file: str
+    edits: dict
+
+
+FAULTS = (
+    Fault("wait and field change places, in packing and unpacking", PACKING, {
+        "put(lent, 32, ": "put(lent, 41, ", "put(lent, 40, ": "put(lent, 32, ", "put(lent, 41, ": "put(lent, 40, ",
+        "wait: image::word(lent, 32, 8)": "wait: image::word(lent, 40, 8)",
+        "field: image::word(lent, 40, 8)": "field: image::word(lent, 32, 8)"}),
+    Fault("numbers of two bytes high byte first, in packing and unpacking", PACKING, {
+        "[(n % 256) as u8, (n / 256 % 256) as u8]": "[(n / 256 % 256) as u8, (n % 256) as u8]",
+        "image::word(lent, at, 2) as u16": "(image::word(lent, at + 1, 1) + 256 * image::word(lent, at, 1)) as u16"}),
+    Fault("mark 2 and overdrive 1, in packing and unpacking", CODES, {
+        "Mode::Marked => 1": "Mode::Marked => 2", "Mode::Overdrive => 2": "Mode::Overdrive => 1",
+        "1 => Mode::Marked": "2 => Mode::Marked", "2 => Mode::Overdrive,": "1 => Mode::Overdrive,"}),
+    Fault("any version", PACKING, {"image::peek(lent, 0) != VERSION": "image::peek(lent, 0) == 0"}),
+    Fault("any byte for PF", PACKING, {"codes::is_flag(image::peek(lent, 14)) && ": ""}),
+    Fault("any numbers for a stage", PACKING, {"!codes::is_stage(stage(lent))": "lent.len() == 0"}),
+    Fault("a byte read past the record", PACKING, {"image::peek(lent, 0) != VERSION": "lent[0] != VERSION || lent[80] == 77"}),
+    Fault("the line left as it was by a refusal", BAGTAG, {"    *line = 1;\n": ""}),
+    Fault("the record changed by a refused reading", BAGTAG, {
+        "packing::pack(lent, tag);\n    *line": "packing::pack(lent, tag);\n"
+        "    if reading > 2047 { image::poke(lent, 79, 1); }\n    *line"}),
+    Fault("the record as it was where words end with a refused one", BAGTAG, {
+        "packing::pack(lent, tag);\n    *done": "if left.done == words.len() { packing::pack(lent, tag); }\n    *done"}),
+    Fault("done not told", BAGTAG, {"    *done = left.done;\n": ""}),
+    Fault("too few replies after a bad image", BAGTAG, {
+        "if replies.len() < words.len() {": "if replies.len() < words.len() && image.len() == IMAGE {"}),
+    Fault("a head of 27 bytes taken", BAGTAG, {"const HEAD: usize = 28;": "const HEAD: usize = 27;"}),
+    Fault("places written with too short a head", BAGTAG, {
+        "return short_head(dump);": "dock::list_dump(dump, temperatures);\n        return short_head(dump);"}),
+    Fault("a head filled for a dump with too few places", BAGTAG, {
+        "if number == 0 {\n        put_head": "if number % 12 == 0 {\n        put_head"}),
+    Fault("entries held and first entry change places in a head", BAGTAG, {
+        "(head, 8, 4, listing.held": "(head, 0, 4, listing.held", "(head, 12, 4, ": "(head, 8, 4, ",
+        "(head, 0, 4, listing.held": "(head, 12, 4, listing.held"}),
+    Fault("the bits of Read ROM not counted as sent", HEADER, {"(record)[BAGTAG_AT_CHOOSING] == 2 || ": ""}),
+    Fault("the bits after a Copy not counted as sent", HEADER, {" || (record)[BAGTAG_AT_STAGE] == 4": ""}),
+    Fault("the master's choice of a Search counted as sent", HEADER, {
+        "(record)[BAGTAG_AT_CHOOSING] == 5": "(record)[BAGTAG_AT_CHOOSING] >= 5 && (record)[BAGTAG_AT_CHOOSING] <= 6"}),
+    Fault("a password counted as sent", HEADER, {"(record)[BAGTAG_AT_STAGE] == 3": "(record)[BAGTAG_AT_STAGE] >= 2"}),
+)
+FIRMWARE_FAULTS = (
+    Fault("the record that counts overwritten", "firmware.c", {"idle = !board_kept.turn": "idle = board_kept.turn"}),
+    Fault("the mark turned first", "firmware.c", {
+        "    board_store(board_kept.records[idle], record, sizeof record);\n": "",
+        "    board_store(&board_kept.turn, &idle, sizeof idle);\n": "    board_store(&board_kept.turn, &idle, sizeof idle);\n"
+        "    board_store(board_kept.records[idle], record, sizeof record);\n"}),
+    Fault("power-up without the kept record", "firmware.c", {
+        "memcpy(record, board_kept.records[board_kept.turn], sizeof record);": ";"}),
+    Fault("the speed not told", "firmware.c", {"board_ready(bit, record[BAGTAG_AT_MODE] & OVERDRIVE)": "board_ready(bit, false)"}),
+    Fault("nothing made ready for the next slot", "firmware.c", {
+        "        keep_record();\n        look_ahead();\n": "        keep_record();\n"}),
+    Fault("a slot worked out ahead of a tag that listens", "firmware.c", {"if (BAGTAG_SENDS(record))": "if (record[0])"}),
+)
+
+
+def edited(path, fault):
+    """A ValueError says which text is not there once."""
+    text = path.read_text("utf-8")
+    for old, new in fault.edits.items():
+        if text.count(old) != 1:
+            raise ValueError(f"'{old.strip()}' stands {text.count(old)} times in {fault.file}")
+        text = text.replace(old, new)
+    path.write_text(text, "utf-8")
+
+
+def checks(folder, play, list_, seed):
+    for place, fault in enumerate(FAULTS):
+        yield from tried(folder / f"fault{place}", fault, lambda home: library_checks(home, fault, play, seed))
+    for place, fault in enumerate(FIRMWARE_FAULTS):
+        yield from tried(folder / f"firmware{place}", fault, lambda home: firmware_checks(home, fault, play, list_))
+
+
+def tried(home, fault, results):
+    """Caught, if one of the checks is not right."""
+    home.mkdir()
+    try:
+        caught = next((name for name, right, _ in results(home) if not right), None)
+    except (ValueError, kit.Missing) as error:
+        yield f"deliberate fault: {fault.name}", False, f"it could not be made: {error}"
+        return
+    if caught:
+        print(f"caught: {fault.name}: by {caught}")
+    yield f"deliberate fault: {fault.name}", caught is not None, "not caught"
+    shutil.rmtree(home)
+
+
+def library_checks(home, fault, play, seed):
+    """Of the library or its header with a fault; what costs least comes first."""
+    for folder in ("include", *(f"crates/{crate}/src" for crate in kit.with_all_below(CRATE))):
+        shutil.copytree(TOP / folder, home / folder)
+    shutil.copy(TOP / "crates.txt", home)
+    edited(home / fault.file, fault)
+    driver, reached = Builds(home, top=home).driver(), []
+    yield from guarded("cases", cases.checks(driver))
+    yield from played.checks(driver, play, seed, range(SESSIONS), reached)
+    yield from listed.checks([driver], seed, range(DUMPS), collections.Counter())
+    yield from throws.checks([driver], seed, THROWS, reached, collections.Counter())
+
+
+def firmware_checks(home, fault, play, list_):
+    shutil.copytree(EXAMPLES, home / "c")
+    edited(home / "c" / fault.file, fault)
+    yield from programs.checks(Builds(home), play, list_, (), home / "c")
