@@ -1,7 +1,7 @@
 """Deliberate faults of the library, its header and the firmware, each a line or two changed in a copy of the sources, to show
 that tests/library would catch them.
 
-A fault names the file, and texts, each of which must stand there exactly once, with what takes their place.
+A fault names the files, and texts, each of which must stand there exactly once, with what takes their place.
 """
 
 import collections
@@ -13,13 +13,15 @@ from .builds import CRATE, EXAMPLES, TOP, Builds, kit
 from .face import guarded
 
 SESSIONS, DUMPS, THROWS = 28, 18, 4000
-BAGTAG, PACKING, CODES = (f"crates/{name}.rt" for name in ("bagtag/src/lib", "packing/src/lib", "packing/src/codes"))
-HEADER = "include/bagtag.h"
+BAGTAG = ("crates/bagtag/src/lib.rt",)
+PACKING = ("crates/packing/src/lib.rt", "crates/packing/src/parts.rt", "crates/packing/src/codes.rt")
+HEADER = ("include/bagtag.h",)
+FIRMWARE = ("firmware.c",)
 
 
 class Fault(NamedTuple):
     name: str
-    file: str
+    files: tuple
     edits: dict
 
 
@@ -31,12 +33,12 @@ FAULTS = (
     Fault("numbers of two bytes high byte first, in packing and unpacking", PACKING, {
         "[(n % 256) as u8, (n / 256 % 256) as u8]": "[(n / 256 % 256) as u8, (n % 256) as u8]",
         "image::word(lent, at, 2) as u16": "(image::word(lent, at + 1, 1) + 256 * image::word(lent, at, 1)) as u16"}),
-    Fault("mark 2 and overdrive 1, in packing and unpacking", CODES, {
+    Fault("mark 2 and overdrive 1, in packing and unpacking", PACKING, {
         "Mode::Marked => 1": "Mode::Marked => 2", "Mode::Overdrive => 2": "Mode::Overdrive => 1",
         "1 => Mode::Marked": "2 => Mode::Marked", "2 => Mode::Overdrive,": "1 => Mode::Overdrive,"}),
     Fault("any version", PACKING, {"image::peek(lent, 0) != VERSION": "image::peek(lent, 0) == 0"}),
     Fault("any byte for PF", PACKING, {"codes::is_flag(image::peek(lent, 14)) && ": ""}),
-    Fault("any numbers for a stage", PACKING, {"!codes::is_stage(stage(lent))": "lent.len() == 0"}),
+    Fault("any numbers for a stage", PACKING, {"!stages::is_stage(parts::stage(lent))": "lent.len() == 0"}),
     Fault("a byte read past the record", PACKING, {"image::peek(lent, 0) != VERSION": "lent[0] != VERSION || lent[80] == 77"}),
     Fault("the line left as it was by a refusal", BAGTAG, {"    *line = 1;\n": ""}),
     Fault("the record changed by a refused reading", BAGTAG, {
@@ -62,28 +64,27 @@ FAULTS = (
     Fault("a password counted as sent", HEADER, {"(record)[BAGTAG_AT_STAGE] == 3": "(record)[BAGTAG_AT_STAGE] >= 2"}),
 )
 FIRMWARE_FAULTS = (
-    Fault("the record that counts overwritten", "firmware.c", {"idle = !board_kept.turn": "idle = board_kept.turn"}),
-    Fault("the mark turned first", "firmware.c", {
+    Fault("the record that counts overwritten", FIRMWARE, {"idle = !board_kept.turn": "idle = board_kept.turn"}),
+    Fault("the mark turned first", FIRMWARE, {
         "    board_store(board_kept.records[idle], record, sizeof record);\n": "",
         "    board_store(&board_kept.turn, &idle, sizeof idle);\n": "    board_store(&board_kept.turn, &idle, sizeof idle);\n"
         "    board_store(board_kept.records[idle], record, sizeof record);\n"}),
-    Fault("power-up without the kept record", "firmware.c", {
+    Fault("power-up without the kept record", FIRMWARE, {
         "memcpy(record, board_kept.records[board_kept.turn], sizeof record);": ";"}),
-    Fault("the speed not told", "firmware.c", {"board_ready(bit, record[BAGTAG_AT_MODE] & OVERDRIVE)": "board_ready(bit, false)"}),
-    Fault("nothing made ready for the next slot", "firmware.c", {
+    Fault("the speed not told", FIRMWARE, {"board_ready(bit, record[BAGTAG_AT_MODE] & OVERDRIVE)": "board_ready(bit, false)"}),
+    Fault("nothing made ready for the next slot", FIRMWARE, {
         "        keep_record();\n        look_ahead();\n": "        keep_record();\n"}),
-    Fault("a slot worked out ahead of a tag that listens", "firmware.c", {"if (BAGTAG_SENDS(record))": "if (record[0])"}),
+    Fault("a slot worked out ahead of a tag that listens", FIRMWARE, {"if (BAGTAG_SENDS(record))": "if (record[0])"}),
 )
 
 
-def edited(path, fault):
+def edit(home, fault):
     """A ValueError says which text is not there once."""
-    text = path.read_text("utf-8")
     for old, new in fault.edits.items():
-        if text.count(old) != 1:
-            raise ValueError(f"'{old.strip()}' stands {text.count(old)} times in {fault.file}")
-        text = text.replace(old, new)
-    path.write_text(text, "utf-8")
+        found = [home / file for file in fault.files if old in (home / file).read_text("utf-8")]
+        if len(found) != 1 or found[0].read_text("utf-8").count(old) != 1:
+            raise ValueError(f"'{old.strip()}' does not stand once in {', '.join(fault.files)}")
+        found[0].write_text(found[0].read_text("utf-8").replace(old, new), "utf-8")
 
 
 def checks(folder, play, list_, seed):
@@ -112,7 +113,7 @@ def library_checks(home, fault, play, seed):
     for folder in ("include", *(f"crates/{crate}/src" for crate in kit.with_all_below(CRATE))):
         shutil.copytree(TOP / folder, home / folder)
     shutil.copy(TOP / "crates.txt", home)
-    edited(home / fault.file, fault)
+    edit(home, fault)
     driver, reached = Builds(home, top=home).driver(), []
     yield from guarded("cases", cases.checks(driver))
     yield from played.checks(driver, play, seed, range(SESSIONS), reached)
@@ -122,5 +123,5 @@ def library_checks(home, fault, play, seed):
 
 def firmware_checks(home, fault, play, list_):
     shutil.copytree(EXAMPLES, home / "c")
-    edited(home / "c" / fault.file, fault)
+    edit(home / "c", fault)
     yield from programs.checks(Builds(home), play, list_, (), home / "c")

@@ -1,21 +1,17 @@
 // The tag's record as bytes: 80 of them at fixed offsets, low byte first, which a caller that knows no enum keeps and lends. The table of
 // offsets stands in include/bagtag.h, the definition in specs/Packing.antt. Every function answers a slice of any length.
-use bus::Bus;
-use bus::Held;
-use exchange::Exchange;
-use mission::Counters;
 use record::Tag;
-use select::Select;
 ghost use mathlib.Core.Path.{_≡_};
 ghost use mathlib.Core.List.{map};
 ghost use Prim.Native.Nat.{_^_, _<_};
 ghost use lib.ListN.{length};
 ghost use lib.Seq.{sets};
 ghost use Rattle.bits.specs.Bytes.{Bytes};
-ghost use Rattle.image.specs.Fields.{wordAt};
-ghost use Rattle.packing.specs.Packing.{pair, lowFirst, bytesOf, singles, pairs, wordsOf, packed, AllFit, Fits, isPacked, unpacked, countersIn, exchangeIn, selectIn, choosingIn, heldIn, bytesFrom, busIn, stageIn};
+ghost use Rattle.packing.specs.Packing.{pair, lowFirst, bytesOf, singles, pairs, wordsOf, packed, AllFit, Fits, isPacked, unpacked};
 
 mod codes;
+mod parts;
+mod stages;
 
 // How many bytes a record has.
 pub const RECORD: usize = 80;
@@ -80,7 +76,7 @@ fn single_bytes(tag: Tag) -> [u8; 16]
     let mode = s.mode;
     let stage = b.stage;
     let chosen = codes::choosing_codes(choosing);
-    let staged = codes::stage_codes(stage);
+    let staged = stages::stage_codes(stage);
     [
         VERSION,
         tag.code,
@@ -186,10 +182,10 @@ pub fn is_packed(lent: &[u8]) -> bool
     if !codes::is_mode(image::peek(lent, 3)) {
         return false;
     }
-    if !codes::is_choosing(choosing(lent)) {
+    if !codes::is_choosing(parts::choosing(lent)) {
         return false;
     }
-    if !codes::is_stage(stage(lent)) {
+    if !stages::is_stage(parts::stage(lent)) {
         return false;
     }
     codes::is_flag(image::peek(lent, 14)) && codes::is_flag(image::peek(lent, 15))
@@ -203,112 +199,11 @@ pub fn unpack(lent: &[u8]) -> Tag
     if lent.len() != RECORD {
         return record::fresh(0, 0);
     }
-    let counters = counters(lent);
-    let exchange = exchange(lent);
+    let counters = parts::counters(lent);
+    let exchange = parts::exchange(lent);
     Tag {
         code: image::peek(lent, 1),
         counters,
         exchange,
     }
-}
-
-fn counters(lent: &[u8]) -> Counters
-    ensures { λ r. ⌜ r ≡ countersIn (now (lent .entry)) ⌝ }
-{
-    Counters {
-        reading: word16(lent, 16),
-        minute: image::peek(lent, 2),
-        wait: image::word(lent, 32, 8),
-    }
-}
-
-fn exchange(lent: &[u8]) -> Exchange
-    ensures { λ r. ⌜ r ≡ exchangeIn (now (lent .entry)) ⌝ }
-{
-    let select = select(lent);
-    let held = held(lent);
-    let bus = bus(lent);
-    Exchange {
-        number: image::word(lent, 24, 8),
-        select,
-        held,
-        bus,
-    }
-}
-
-fn select(lent: &[u8]) -> Select
-    ensures { λ r. ⌜ r ≡ selectIn (now (lent .entry)) ⌝ }
-{
-    let choosing = codes::choosing_of(choosing(lent));
-    let mode = codes::mode_of(image::peek(lent, 3));
-    Select { choosing, mode }
-}
-
-fn choosing(lent: &[u8]) -> Coded
-    ensures { λ r. ⌜ r ≡ choosingIn (now (lent .entry)) ⌝ }
-{
-    codes::coded(
-        image::peek(lent, 4),
-        image::peek(lent, 5),
-        image::peek(lent, 6),
-    )
-}
-
-fn held(lent: &[u8]) -> Held
-    ensures { λ r. ⌜ r ≡ heldIn (now (lent .entry)) ⌝ }
-{
-    let pad = pad(lent);
-    Held {
-        pad,
-        ta: word16(lent, 18),
-        ending: image::peek(lent, 13),
-        pf: image::peek(lent, 14) == 1,
-        aa: image::peek(lent, 15) == 1,
-    }
-}
-
-fn pad(lent: &[u8]) -> [u8; 32]
-    ensures { λ r. ⌜ r ≡ bytesFrom (now (lent .entry)) 48 32 ⌝ }
-{
-    let mut pad = [0u8; 32];
-    let mut i = 0;
-    while i < 32 {
-        pad[i] = image::peek(lent, 48 + i);
-        i += 1;
-    }
-    pad
-}
-
-fn bus(lent: &[u8]) -> Bus
-    ensures { λ r. ⌜ r ≡ busIn (now (lent .entry)) ⌝ }
-{
-    let stage = codes::stage_of(stage(lent));
-    Bus {
-        stage,
-        byte: image::peek(lent, 10),
-        at: image::peek(lent, 11),
-        crc: word16(lent, 20),
-        address: word16(lent, 22),
-        status: image::peek(lent, 12),
-        field: image::word(lent, 40, 8),
-    }
-}
-
-fn stage(lent: &[u8]) -> Coded
-    ensures { λ r. ⌜ r ≡ stageIn (now (lent .entry)) ⌝ }
-{
-    codes::coded(
-        image::peek(lent, 7),
-        image::peek(lent, 8),
-        image::peek(lent, 9),
-    )
-}
-
-fn word16(lent: &[u8], at: usize) -> u16
-    ensures { λ r. ⌜ r ≡ wordAt (now (lent .entry)) at 2 ⌝ }
-{
-    if lent.len() <= at {
-        return 0;
-    }
-    image::word(lent, at, 2) as u16
 }
