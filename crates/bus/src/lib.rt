@@ -1,5 +1,6 @@
 // The bus state of the memory commands, and scratchpad, TA and E/S, by value: what a slot finds and what it leaves. What must be known
-// of the image is a `Question`, what is to be done to it a `Deed`.
+// of the image is a `Question`, what is to be done to it a `Deed`. A packed record has a stage, and the cases within it, by their places here
+// (crate `packing`): a new one goes last.
 ghost use mathlib.Core.Path.{_≡_};
 ghost use Rattle.bus.specs.Bus.{newHeld};
 

@@ -6,7 +6,7 @@ mod modes;
 ghost use mathlib.Core.Path.{_≡_};
 ghost use Rattle.select.specs.Select.{speedIn, newSelect, resetSelect, restarted, slotOf, isSelected, asksAlarm, selectInRange, commandBit, romCommand, keeps, readBit, heardBit, following, sends};
 
-// Where the choosing of a tag stands.
+// Where the choosing of a tag stands. A packed record has a case by its place here (crate `packing`): a new one goes last.
 pub enum Choosing {
     // sends and hears nothing until a reset
     Silent,
@@ -24,7 +24,8 @@ pub enum Choosing {
     Selected,
 }
 
-// What outlasts a ROM command: the Resume mark and the speed, in one byte, so that a record is copied in whole words (bench/README.md).
+// What outlasts a ROM command: the Resume mark and the speed, in one byte, so that a record is copied in whole words (bench/README.md). A
+// packed record has a case by its place here.
 pub enum Mode {
     // standard speed, no mark
     Plain,
