@@ -10,7 +10,7 @@ from .common import DONE, TOP, start
 
 with open(os.path.join(TOP, ".ci", "run"), encoding="utf-8") as file:
     SCRIPTS = re.findall(r"(?m)^without_proof (\S+)", file.read())
-DUE = {"tests/determinacy", "tests/examples", "tests/tools", "tests/take", "tests/run", "tests/lists"}
+DUE = {"tests/determinacy", "tests/examples", "tests/tools", "tests/take", "tests/run", "tests/lists", "tests/library", "chip/test"}
 
 
 def make(folder, path, text):
@@ -39,7 +39,7 @@ def checks():
     yield "the gate runs what it should", DUE <= set(SCRIPTS), SCRIPTS
     status, lines, proved = gate(None)
     yield "the gate, all well", (status, lines[-1], proved) == (4, "7 passed, 0 failed", True), (status, lines)
-    yield "the gate, its lines have names", all(line.startswith(("gate: ", "tests/")) for line in lines[:-1]), lines
+    yield "the gate, its lines have names", all(line.startswith(("gate: ", "tests/", "chip/")) for line in lines[:-1]), lines
     for script in SCRIPTS:
         status, lines, proved = gate(script)
         right = status != DONE and lines[-1] == f"gate: FAILED: {script}, before anything was proved" and not proved
