@@ -1,11 +1,11 @@
 -- `packing::is_packed` meets its contract, test by test. Assumes nothing.
-use mathlib.Core.Bool.{true}
+use mathlib.Core.Bool.{true, _&&_}
 use mathlib.Core.Path.{_≡_}
 use borrow.Author.Needs.{needs}
 use borrow.Author.Tests.{eq-eqb, ne-eqb, not-true, not-false}
 use lib.Dec.{eqb}
 use lib.ListN.{length, getD}
-use Rattle.packing.specs.Codes.{isMode, isChoosing, isStage}
+use Rattle.packing.specs.Codes.{isMode, isChoosing, isStage, isFlag}
 use Rattle.packing.specs.Packing.{choosingIn, stageIn, isPacked}
 use Rattle.packing.proofs.is_packed.Statement.{statement}
 use Rattle.packing.proofs.is_packed.Tie as tie
@@ -86,43 +86,29 @@ returns-5 c =
       not-true (c .before .is-stage .result) (c .if5 .taken),
     )
 
-returns-6 : tie.Need-returns-6
+-- then the flags alone decide
+flags : (c : tie.Else5) → isPacked (c .before .before .before .before .before .before .before .before .before .before .before .before .before .args .lent .now) ≡ isFlag (getD (c .before .before .before .before .before .before .before .before .before .before .before .before .before .args .lent .now) 14 0) && isFlag (getD (c .before .before .before .before .before .before .before .before .before .before .before .before .before .args .lent .now) 15 0)
 unfolding isPacked
-returns-6 c =
-    let stage = c .before .before .before .before .before in
-    let choosing = stage .before .before .before in
+flags c =
+    let choosing = c .before .before .before in
     let mode = choosing .before .before .before in
     let version = mode .before .before .before in
-    simp (
-      whole (version .before .before),
-      versioned version,
-      moded mode,
-      chosen choosing,
-      staged stage,
+    simp (whole (version .before .before), versioned version, moded mode, chosen choosing, staged c)
+
+returns-6 : tie.Need-returns-6
+returns-6 c =
+    rw (
+      flags (c .before .before .before .before .before),
       ← c .before .before .before .before .peek3 .ensures,
       ← c .before .before .before .is-flag .ensures,
       c .before .before .if6 .taken,
       ← c .before .peek4 .ensures,
-      c .is-flag2 .ensures,
     )
+    (c .is-flag2 .ensures)
 
 returns-7 : tie.Need-returns-7
-unfolding isPacked
 returns-7 c =
-    let stage = c .before .before .before in
-    let choosing = stage .before .before .before in
-    let mode = choosing .before .before .before in
-    let version = mode .before .before .before in
-    simp (
-      whole (version .before .before),
-      versioned version,
-      moded mode,
-      chosen choosing,
-      staged stage,
-      ← c .before .before .peek3 .ensures,
-      ← c .before .is-flag .ensures,
-      c .if6 .left,
-    )
+    rw (flags (c .before .before .before), ← c .before .before .peek3 .ensures, ← c .before .is-flag .ensures, c .if6 .left)
 
 pub is-packed-spec : {M : Type 1} → statement M
 is-packed-spec =
