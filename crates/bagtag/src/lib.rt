@@ -3,16 +3,12 @@
 // types do: that the record's slice is of bytes, and that the record it leaves fits them. So a refusal that packs it again changes no byte.
 use answer::Answer;
 use dock::Listing;
-ghost use mathlib.Core.Bool.{true};
 ghost use mathlib.Core.Path.{_≡_};
-ghost use Prim.Native.Nat.{_≤_};
 ghost use lib.ListN.{length};
 ghost use lib.Seq.{sets};
-ghost use Rattle.batch.specs.Batch as batch;
 ghost use Rattle.bits.specs.Bytes.{Bytes};
-ghost use Rattle.packing.specs.Packing.{bytesOf, AllFit, Fits, isPacked, unpacked};
+ghost use Rattle.packing.specs.Packing.{bytesOf, AllFit};
 ghost use Rattle.dock.specs.Listing.{listingOf};
-ghost use Rattle.tag.specs.Tag.{newTag, step};
 ghost use Rattle.bagtag.specs.Bagtag.{newCall, NewFits, eventCall, EventFits, eventsCall, EventsFit, listCall, roomNumber, headOf, HeadFits, countsOf};
 
 const IMAGE: usize = 8832;
