@@ -6,9 +6,8 @@ use mathlib.Core.Bool.{Bool, true, false, not, _&&_, _||_}
 use mathlib.Core.List.{List, [], _∷_, _++_, map}
 use mathlib.Core.Logic.{_≢_, _↔_}
 use mathlib.Core.Path.{_≡_}
-use Prim.Native.Nat.{ℕ, zero, suc, _+_, _-_, _*_, _≤_, _<_}
+use Prim.Native.Nat.{ℕ, zero, suc, _+_, _*_, _≤_, _<_}
 use lib.Dec.{eqb, ltb}
-use lib.IntN.{ℤ, pos, negsuc}
 use lib.ListN.{length, getD, replicate, take, drop}
 use denote.Ref.{now}
 use Rattle.bagtag.proofs.bagtag_event.Reads as bagtag-event
@@ -34,6 +33,7 @@ use Rattle.promises.specs.Calls.{Meaning, meaningOf}
 use Rattle.promises.specs.Ranges.{isRom, isConfiguration, inRange}
 use Rattle.promises.specs.Runs.{State, Event, leaves, after, lineBit, run, Reached}
 use Rattle.promises.specs.Sentences.Dump.{dumpNumber}
+use Rattle.promises.specs.Sentences.Listing.{signed}
 use Rattle.promises.specs.Sentences.Events.{numberIn, ownNumber}
 use Rattle.promises.specs.Words.{if_then_else_, markIn, speedIn}
 pub mod Record
@@ -198,18 +198,14 @@ dumpsNumber text places head = if eqb (dumpNumber text places) 0 && ltb head 28 
 
 -- ---- a listing's head
 
--- "signed, 64 bits": the eight bytes of a number in two's complement; `negsuc m` is -(m + 1)
-abbrev pub signed64 : ℤ → ℕ
-signed64 (pos m) = m
-signed64 (negsuc m) = 18446744073709551616 - suc m
-
 pub record HeadLaid (listing : Listing) (head : List ℕ) : Type 0 where
   pub code : getD head 0 0 ≡ listing .code
   pub later : getD head 1 0 ≡ 0
   pub stamp : take 6 (drop 2 head) ≡ listing .stamp
   pub held : wordIn head 8 4 ≡ listing .held
   pub first : wordIn head 12 4 ≡ listing .first
-  pub seconds : wordIn head 16 8 ≡ signed64 (secondsAt listing 0)
+  -- "signed, 64 bits": in two's complement, as sixteen digits write it
+  pub seconds : wordIn head 16 8 ≡ signed 16 (secondsAt listing 0)
   -- "period": the rate is in seconds with EHSS 1, else in minutes
   pub period : wordIn head 24 4 ≡ (if listing .ehss then listing .rate else listing .rate * 60)
 

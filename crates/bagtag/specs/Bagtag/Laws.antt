@@ -153,7 +153,7 @@ list-refused dump lent head long ne = rw (le-ltb (length head) 28 long, ne-eqb (
 -- ---- words
 
 -- a word is stored low byte first
-pub put-sets : (l : List ℕ) (at n v : ℕ) → putWord l at n v ≡ sets l at (lowFirst n v)
+put-sets : (l : List ℕ) (at n v : ℕ) → putWord l at n v ≡ sets l at (lowFirst n v)
 unfolding putWord lowFirst
 put-sets l at zero v = refl
 put-sets l at (suc n) v = put-sets (set l at (v % 256)) (suc at) n (v / 256)

@@ -108,7 +108,7 @@ sending-case (Sending.CrcHigh next) = refl
 
 -- ---- numbers that are a case's own
 
-pub same-is : (codes others : Coded) → sameCodes codes others ≡ true → codes ≡ others
+same-is : (codes others : Coded) → sameCodes codes others ≡ true → codes ≡ others
 unfolding sameCodes
 same-is codes others e =
     let two = and-eq-true-iff (eqb (codes .case) (others .case) && eqb (codes .first) (others .first)) (eqb (codes .second) (others .second)) .0 e in

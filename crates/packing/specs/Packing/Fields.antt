@@ -14,7 +14,7 @@ use Rattle.packing.specs.Packing.{Field, byte, lowFirst, bytesOf, AllFit
 
 -- ---- a number's bytes
 
-pub length-low : (width n : ℕ) → length (lowFirst width n) ≡ width
+length-low : (width n : ℕ) → length (lowFirst width n) ≡ width
 unfolding lowFirst
 length-low zero n = refl
 length-low (suc width) n = ap suc (length-low width (n / 256))
@@ -177,15 +177,11 @@ unfoldable pub fieldsIn : List ℕ → List ℕ → ℕ → List Field
 fieldsIn [] l at = []
 fieldsIn (w ∷ ws) l at = record { width = w; value = wordAt l at w } ∷ fieldsIn ws l (at + w)
 
-unfoldable pub sum : List ℕ → ℕ
-sum [] = 0
-sum (w ∷ ws) = w + sum ws
-
 -- they pack to those bytes ..
-pub bytes-again : (ws l : List ℕ) (at : ℕ) → Bytes l → bytesOf (fieldsIn ws l at) ≡ bytesFrom l at (sum ws)
-unfolding fieldsIn bytesOf sum bytesFrom
+pub bytes-again : (ws l : List ℕ) (at : ℕ) → Bytes l → bytesOf (fieldsIn ws l at) ≡ bytesFrom l at (widthsOf (fieldsIn ws l at))
+unfolding fieldsIn bytesOf widthsOf bytesFrom
 bytes-again [] l at bytes = refl
-bytes-again (w ∷ ws) l at bytes = rw (low-word l at w bytes, bytes-again ws l (at + w) bytes) (bytes-join l at w (sum ws))
+bytes-again (w ∷ ws) l at bytes = rw (low-word l at w bytes, bytes-again ws l (at + w) bytes) (bytes-join l at w (widthsOf (fieldsIn ws l (at + w))))
 
 -- .. and fit
 pub fields-fit : (ws l : List ℕ) (at : ℕ) → Bytes l → AllFit (fieldsIn ws l at)

@@ -17,7 +17,7 @@ use Rattle.packing.specs.declared.Coded.{Coded}
 use Rattle.packing.specs.Codes.{codedAs, choosingCodes, choosingOf, modeCode, modeOf, stageCodes, stageOf, isChoosing, isStage, isMode, isFlag}
 use Rattle.packing.specs.Codes.Laws.{choosing-back, stage-back, mode-back, flag-back, own-choosing, own-stage, own-mode, own-flag, choosing-again, stage-again, mode-again, flag-again}
 use Rattle.packing.specs.Packing.{byte, pair, eight, version, bytesOf, singles, pairs, eights, wordsOf, fieldsOf, packed, Fits, bytesFrom, choosingIn, stageIn, isPacked, countersIn, selectIn, heldIn, busIn, exchangeIn, unpacked}
-use Rattle.packing.specs.Packing.Fields.{word-one, offsetOf, field-back, widthsOf, length-fields, stores, stores-sets, bytes-append, append-bytes, fields-bytes, bytes-singles, fit-singles, bytes-all, bytes-past, bytes-join, bytes-again, fieldsIn, fields-fit, sum, length-bytes, bytes-are}
+use Rattle.packing.specs.Packing.Fields.{word-one, offsetOf, field-back, widthsOf, length-fields, stores, stores-sets, bytes-append, append-bytes, fields-bytes, bytes-singles, fit-singles, bytes-all, bytes-past, bytes-join, bytes-again, fieldsIn, fields-fit, length-bytes, bytes-are}
 
 -- ---- storing
 
@@ -254,7 +254,7 @@ module _ (lent : List ℕ) (bytes : Bytes lent) (own : Own lent) where
   pad-in = ap (λ (t : Tag). t .exchange .held .pad) stands
 
   pub packed-unpacked : packed (unpacked lent) ≡ lent
-  unfolding packed widths sum
+  unfolding packed widths fieldsIn widthsOf
   packed-unpacked =
       rw (same-fields, pad-in, bytes-again widths lent 0 bytes)
       (bytes-join lent 0 48 32 ∙ (rw (own .size) at (bytes-all lent)))

@@ -43,13 +43,14 @@ use Rattle.promises.specs.Calls.{Meaning, meaningOf}
 use Rattle.promises.specs.Calls.Proof.{reached-step, step-taken-is, step-refused-is, leaves-taken}
 use Rattle.promises.specs.Demand1.{demand1}
 use Rattle.promises.specs.Library.Record.{fits-of, holds-of, laid-out, exactly-packed, sends-in}
-use Rattle.promises.specs.Library.{digitOf, sendsIn, Bytes, newNumber, eventNumber, eventsNumber, dumpsNumber, signed64, HeadLaid, Keeps, KeptTag, FromNew, Chain, Library}
+use Rattle.promises.specs.Library.{digitOf, sendsIn, Bytes, newNumber, eventNumber, eventsNumber, dumpsNumber, HeadLaid, Keeps, KeptTag, FromNew, Chain, Library}
 use Rattle.promises.specs.Ranges.{isRom, isConfiguration, inRange, Fit}
 use Rattle.promises.specs.Runs as runs
 use Rattle.promises.specs.Runs.{State, leaves, after, lineBit, run, Reached}
 use Rattle.promises.specs.Runs.Laws.{reached-sound, run-append}
 use Rattle.promises.specs.Sentences.Dump.{dumpNumber}
 use Rattle.promises.specs.Sentences.Dump.Proof.{dump}
+use Rattle.promises.specs.Sentences.Listing.{signed}
 use Rattle.promises.specs.Sentences.Events as sentences
 use Rattle.promises.specs.Sentences.Events.{numberIn, ownNumber}
 use Rattle.promises.specs.Sentences.Events.Slots.{slot-spares}
@@ -302,7 +303,7 @@ list-not-six false false e = omega (arith, e)
 number-is : (text : List ℕ) (places : List ℤ) → answerNumber (answerOf text (length places)) ≡ dumpNumber text (length places)
 number-is text places = ap answerNumber (sym (answer-listing text (length places))) ∙ dump .number text places
 
-signed-told : (z : ℤ) → twosComplement z ≡ signed64 z
+signed-told : (z : ℤ) → twosComplement z ≡ signed 16 z
 unfolding twosComplement
 signed-told (pos m) = refl
 signed-told (negsuc m) = refl
