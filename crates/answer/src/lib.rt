@@ -30,6 +30,10 @@ pub enum Answer {
     Counts,
     // Fewer places lent for temperatures than entries held.
     Places,
+    // Two tags on a line with the same number.
+    SameNumber,
+    // A line of no tag or of more than seven, or a tick for a place that has none.
+    TagPlace,
     // Fewer reply bytes lent than the list has words.
     Replies,
 }
@@ -39,10 +43,10 @@ pub fn number(answer: Answer) -> u8
     ensures { λ r. ⌜ r ≡ answerNumber answer ⌝ }
 {
     let place = place(answer);
-    if place < 13 { place } else { 17 }
+    if place < 15 { place } else { 17 }
 }
 
-// The answer's place in the list, which up to 12 is its number. Places in a row need no table, and whoever asks for the number 0 asks
+// The answer's place in the list, which up to 14 is its number. Places in a row need no table, and whoever asks for the number 0 asks
 // for the first of them (bench/README.md).
 fn place(answer: Answer) -> u8
     ensures { λ r. ⌜ r ≡ placeOf answer ⌝ }
@@ -61,7 +65,9 @@ fn place(answer: Answer) -> u8
         Answer::Cleared => 10,
         Answer::Counts => 11,
         Answer::Places => 12,
-        Answer::Replies => 13,
+        Answer::SameNumber => 13,
+        Answer::TagPlace => 14,
+        Answer::Replies => 15,
     }
 }
 

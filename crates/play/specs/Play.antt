@@ -1,53 +1,25 @@
--- What the playing program prints for a block of events, and what that leaves (document 01, "What is built"). Assumes nothing.
-use mathlib.Core.Bool.{Bool, true, false}
-use mathlib.Core.List.{List, [], _∷_, _++_}
-use Prim.Native.Nat.{ℕ, _+_, _*_}
-use lib.Dec.{eqb}
-use lib.ListN.{length}
-use Rattle.answer.specs.Answer.{answerNumber, refusalText}
-use Rattle.bits.specs.Bits.{digit}
-use Rattle.bits.specs.Choose.{if_then_else_}
+-- What the playing program prints and leaves (document 01, "What is built"). Assumes nothing.
+use mathlib.Core.List.{List}
+use Prim.Native.Nat.{ℕ}
+use lib.ListN.{length, getD}
+use Rattle.answer.specs.Answer.{answerNumber}
+use Rattle.console.specs.Console.{Reply, Session, played, groupsIn, readingOf}
 use Rattle.record.specs.declared.Tag.{Tag}
 use Rattle.record.specs.Record.{Outcome}
 use Rattle.tag.specs.Tag.{step}
 use Rattle.play.specs.declared.Played.{Played}
 pub mod Laws
 
--- what a block of events leaves: the text printed, the record, the lent image, and whether all of them were accepted
-pub record Session : Type 0 where
-  pub text : List ℕ
-  pub tag : Tag
-  pub image : List ℕ
-  pub accepted : Bool
+-- an event of "three bytes .. (code, reading high, low ..)"
+unfoldable pub replyOf : List ℕ → Tag → List ℕ → Reply Tag
+replyOf image tag group =
+    let o : Outcome = step image tag (getD group 0 0) (readingOf (getD group 1 0) (getD group 2 0)) in
+    record { number = answerNumber (o .answered .answer); line = o .answered .line; back = o .answered .tag; lent = o .image }
 
--- "prints 0 or 1 and a line feed for each"
-unfoldable pub bitText : Bool → List ℕ
-bitText line = (0x30 + digit line) ∷ 0x0A ∷ []
-
--- what an event's answer prints: its line bit, or its refusal
-unfoldable pub answerText : ℕ → Bool → List ℕ
-answerText number line = if eqb number 0 then bitText line else refusalText number
-
--- nothing more is printed
-abbrev pub over : Bool → List ℕ → Tag → Session
-over accepted image tag = record { text = []; tag = tag; image = image; accepted = accepted }
-
--- a text, and then the rest
-abbrev pub printing : List ℕ → Session → Session
-printing text rest =
-    record { text = text ++ rest .text; tag = rest .tag; image = rest .image; accepted = rest .accepted }
-
--- "three bytes an event (code, reading high, low; a short last group is dropped)"; "On a refusal .. stops"
-unfoldable pub sessionOf : List ℕ → Tag → List ℕ → Session
-sessionOf image tag [] = over true image tag
-sessionOf image tag (code ∷ []) = over true image tag
-sessionOf image tag (code ∷ high ∷ []) = over true image tag
-sessionOf image tag (code ∷ high ∷ low ∷ rest) =
-    let o : Outcome = step image tag code (256 * high + low) in
-    let number : ℕ = answerNumber (o .answered .answer) in
-    printing (answerText number (o .answered .line))
-    (if eqb number 0 then sessionOf (o .image) (o .answered .tag) rest else over false (o .image) (o .answered .tag))
+-- the events of the input; "a short last group is dropped"
+abbrev pub sessionOf : List ℕ → Tag → List ℕ → Session Tag
+sessionOf image tag input = played replyOf image tag (groupsIn 3 input)
 
 -- as the code returns it: how much is printed stands for the text
-abbrev pub playedIn : Session → Played
-playedIn s = record { tag = s .tag; printed = length (s .text); accepted = s .accepted }
+abbrev pub playedIn : Session Tag → Played
+playedIn s = record { tag = s .back; printed = length (s .text); accepted = s .accepted }

@@ -1,100 +1,95 @@
--- `play::play_groups` meets its contract. With the groups from `i` on still to be played and their text put behind what is printed
--- already, all is as promised; after a refusal nothing is left to be played. What is printed is no longer than what is played,
--- so no sum wraps. The measure is the bytes left. Assumes nothing.
+-- `play::play_groups` meets its contract. The groups before `i` are played (`Playing`), and after a refusal nothing is left to be
+-- played. What is printed is no longer than what is played, so no sum wraps. The measure is the bytes left. Assumes nothing.
 use mathlib.Core.Logic.{⊎-elim}
 use mathlib.Core.Path.{_≡_, refl, ap, _∙_}
 use Prim.Native.Nat.{_+_, _-_, _≤_, _<_, _^_}
-use native.Mathlib.Nat.{add-zero, zero-add}
 use native.Mathlib.Omega.{arith}
 use borrow.Author.Needs.{needs}
 use borrow.Author.Tests.{leb-true, leb-false}
-use lib.ListN.{length, drop, length-drop}
-use Rattle.play.specs.Play.{sessionOf}
-use Rattle.play.specs.Play.Laws.{Put, following, following-none, putOf, put-group, following-on, answer-length, bit-length}
+use lib.ListN.{length}
+use Rattle.console.specs.Console.Laws.{Put, Playing, playing-none, playing-one, playing-all, answer-length}
+use Rattle.record.specs.declared.Tag.{Tag}
+use Rattle.play.specs.declared.Played.{Played}
+use Rattle.play.specs.Play.{replyOf}
+use Rattle.play.specs.Play.Laws.{reply-at}
 use Rattle.play.proofs.play_groups.Statement.{statement}
 use Rattle.play.proofs.play_groups.Tie as tie
 
 abbrev Inv-loop : tie.InvT-loop
-Inv-loop image₀ block out₀ now₀ refusal₀ printed₀ i₀ image out now refusal printed i =
-    (i ≤ length block)
-    × (length image ≡ length image₀)
+Inv-loop image₀ input out₀ now₀ refusal₀ printed₀ i₀ image out now refusal printed i =
+    (length image ≡ length image₀)
     × (length out ≡ length out₀)
-    × (refusal ≡ 0 → printed ≤ i)
-    × (putOf out printed (following refusal image now (drop i block)) ≡ putOf out₀ 0 (sessionOf image₀ now₀ block))
+    × Playing replyOf 3 image₀ now₀ input out₀ image out now refusal printed i
 
 abbrev μ-loop : tie.MeasureT-loop
-μ-loop image₀ block out₀ now₀ refusal₀ printed₀ i₀ image out now refusal printed i = length block - i
+μ-loop image₀ input out₀ now₀ refusal₀ printed₀ i₀ image out now refusal printed i = length input - i
 
 loop-holds : tie.Need-loop-holds Inv-loop μ-loop
-unfolding following
-loop-holds c = (omega arith, refl, refl, λ _. omega arith, refl)
+loop-holds c =
+    let a = c .before .before .before .args in
+    (refl, refl, playing-none replyOf 3 (a .image .now) (a .tag) (a .input .now) (a .out .now))
 
--- three bytes are left in the block
-room : (c : tie.Then1 Inv-loop μ-loop) → c .before .before .loop .i + 3 ≤ length (c .before .before .before .before .before .before .args .block .now)
+-- three bytes are left, of so few that they can be counted
+room : (c : tie.Then1 Inv-loop μ-loop) →
+    let input = c .before .before .before .before .before .before .args .input .now in
+    (c .before .before .loop .i + 3 ≤ length input) × (length input < 2 ^ 63)
 room c =
-    let l = c .before .before .loop in
-    omega (arith, l .inv .0, leb-true 3 (length (c .before .before .before .before .before .before .args .block .now) - l .i) (c .if1 .taken))
-
--- a block is short enough to count in
-short : (c : tie.Then1 Inv-loop μ-loop) → length (c .before .before .before .before .before .before .args .block .now) < 2 ^ 63
-short c = omega (arith, c .before .before .before .before .before .before .good .1 .1 .0 .1)
-
-shared-slice-read-reading-of : tie.Need-shared-slice-read-reading-of Inv-loop μ-loop
-shared-slice-read-reading-of c = omega (arith, room (c .before))
-
-shared-slice-read-reading-of-2 : tie.Need-shared-slice-read-reading-of-2 Inv-loop μ-loop
-shared-slice-read-reading-of-2 c = omega (arith, room (c .before .before))
-
-shared-slice-read-event : tie.Need-shared-slice-read-event Inv-loop μ-loop
-shared-slice-read-event c = omega (arith, room (c .before .before .before .before .before))
+    let start = c .before .before .before .before .before .before in
+    let i = c .before .before .loop .i in
+    let left = leb-true 3 (length (start .args .input .now) - i) (c .if1 .taken) in
+    (omega (arith, c .before .before .loop .inv .2 .inside, left), omega (arith, start .good .1 .1 .0 .1))
 
 add-printed : tie.Need-add-printed Inv-loop μ-loop
 add-printed c =
-    let number = c .before .before .before .before in
+    let put = c .before .before in
+    let number = put .before .before in
     let event = number .before .before .before in
     let turn = event .before .before .before .before .before .before in
-    let printed = turn .before .before .loop .inv .3 (turn .before .loop-test .taken) in
-    omega (arith, room turn, short turn, printed, c .before .before .put-answer .ensures .0, answer-length (number .number .result) (event .event .result .line))
+    let printed = turn .before .before .loop .inv .2 .short (turn .before .loop-test .taken) in
+    omega (arith, room turn .0, room turn .1, printed, put .put-answer .ensures .0, answer-length (number .number .result) (event .event .result .line))
 
 add-i : tie.Need-add-i Inv-loop μ-loop
 add-i c =
-    let turn = c .before .before .before .before .before .before .before .before .before .before .before .before .before .before in
-    omega (arith, room turn, short turn)
+    let event = c .before .before .before .before .before .before .before .before in
+    let turn = event .before .before .before .before .before .before in
+    omega (arith, room turn .0, room turn .1)
 
 loop-less : tie.Need-loop-less Inv-loop μ-loop
-loop-less c = omega (arith, room (c .before .before .before .before .before .before .before .before .before .before .before .before .before .before))
+loop-less c =
+    let event = c .before .before .before .before .before .before .before .before in
+    let turn = event .before .before .before .before .before .before in
+    omega (arith, room turn .0)
 
 loop-again : tie.Need-loop-again Inv-loop μ-loop
 loop-again c =
-    let turn = c .before .before .before .before .before .before .before .before .before .before .before .before .before .before in
+    let put = c .before .before .before in
+    let number = put .before .before in
+    let event = number .before .before .before in
+    let read = event .before .before .before in
+    let turn = read .before .before .before in
     let l = turn .before .before .loop in
-    let block = turn .before .before .before .before .before .before .args .block .now in
-    let read = c .before .before .before .before .before .before .before .before .before .before .before .reading-of .ensures in
-    let event = c .before .before .before .before .before .before .before .before .event in
-    let number = c .before .before .before .before .before .number in
-    let put = c .before .before .before .put-answer in
-    let accepted = turn .before .loop-test .taken in (
-      room turn,
-      event .kept .0 ∙ l .inv .1,
-      put .kept .0 ∙ l .inv .2,
-      λ zero. omega (arith, l .inv .3 accepted, put .ensures .0, bit-length (number .result) (event .result .line) zero),
-      put-group (l .image) (l .now) block (l .out) (l .i) (l .printed) (room turn) _ read _ (event .ensures .0) _ (event .ensures .1)
-          _ (number .ensures) _ (put .ensures .1) _ (put .ensures .0)
-          ∙ rw (following-on (l .refusal) (l .image) (l .now) (drop (l .i) block) accepted) at (l .inv .4),
+    let a = turn .before .before .before .before .before .before .args in
+    let reply =
+    reply-at (l .image) (l .now) (a .input .now) (l .i) _ (read .reading-of .ensures) _ (event .event .ensures .0) _ (event .event .ensures .1)
+    _ (number .number .ensures) in (
+      event .event .kept .0 ∙ l .inv .0,
+      put .put-answer .kept .0 ∙ l .inv .1,
+      playing-one replyOf 3 (a .image .now) (a .tag) (a .input .now) (a .out .now) (omega arith) (l .inv .2) (turn .before .loop-test .taken) (room turn .0)
+          _ reply _ (put .put-answer .ensures .1) _ (put .put-answer .ensures .0),
     )
 
 returns : tie.Need-returns Inv-loop μ-loop
-unfolding putOf
 returns c =
     let l = c .before .loop in
-    let block = c .before .before .before .before .before .args .block .now in
-    let none : l .refusal ≡ 0 → length (drop (l .i) block) < 3 =
-    ⊎-elim (λ w _. simp length-drop (omega (arith, leb-false 3 (length block - l .i) (w .1 .left)))) (λ w zero. absurd (w .left zero)) (c .loop-test .came) in
-    let e = rw (following-none (l .refusal) (l .image) (l .now) (drop (l .i) block) none) at (l .inv .4) in
-    (rw (add-zero, zero-add) at (ap (λ (p : Put). p .played) e), (ap (λ (p : Put). p .image) e, ap (λ (p : Put). p .out) e))
+    let a = c .before .before .before .before .before .args in
+    let none : l .refusal ≡ 0 → length (a .input .now) - l .i < 3 =
+    ⊎-elim (λ w _. leb-false 3 (length (a .input .now) - l .i) (w .1 .left)) (λ w zero. absurd (w .left zero)) (c .loop-test .came) in
+    let e = playing-all replyOf 3 (a .image .now) (a .tag) (a .input .now) (a .out .now) (l .inv .2) none in
+    let returned : Put Tag → Played = λ p. record { tag = p .back; printed = p .printed; accepted = p .accepted } in
+    (ap returned e, (ap (λ (p : Put Tag). p .lent) e, ap (λ (p : Put Tag). p .out) e))
 
 pub play-groups-spec : {M : Type 1} → statement M
 play-groups-spec =
-    tie.close (tie.spec Inv-loop μ-loop loop-holds (omega arith) (omega arith) shared-slice-read-reading-of (omega arith)
-    shared-slice-read-reading-of-2 (search needs) shared-slice-read-event (search needs) (search needs) (search needs)
-    add-printed add-i loop-less loop-again (search needs) (search needs) returns)
+    tie.close (tie.spec Inv-loop μ-loop loop-holds (omega arith) (omega arith) (λ c. omega (arith, room (c .before) .0)) (omega arith)
+    (λ c. omega (arith, room (c .before .before) .0)) (search needs) (λ c. omega (arith, room (c .before .before .before .before .before) .0))
+    (search needs) (search needs) (search needs) add-printed add-i loop-less loop-again (search needs) (search needs) returns)

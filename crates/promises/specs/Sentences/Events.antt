@@ -22,7 +22,7 @@ pub mod Proof
 
 -- ---- the numbers
 
--- the table's, and 17 of request #101
+-- the table's, 13 and 14 of request #106, and 17 of request #101
 abbrev pub numberIn : Answer → ℕ
 numberIn Answer.Accepted = 0
 numberIn Answer.EventCode = 1
@@ -37,6 +37,8 @@ numberIn Answer.LinePage = 9
 numberIn Answer.Cleared = 10
 numberIn Answer.Counts = 11
 numberIn Answer.Places = 12
+numberIn Answer.SameNumber = 13
+numberIn Answer.TagPlace = 14
 numberIn Answer.Replies = 17
 
 -- 1: "Answer 1 now begins above 4"; 2: "tick with a reading above 2047"

@@ -1,12 +1,12 @@
--- `play::put_refusal` meets its contract. Assumes nothing.
+-- `console::put_refusal` meets its contract. Assumes nothing.
 use mathlib.Core.Path.{_≡_, sym}
 use Prim.Native.Nat.{suc, _+_}
 use native.Mathlib.Omega.{arith}
 use borrow.Author.Needs.{needs}
 use Rattle.answer.specs.Answer.{refusalText}
-use Rattle.play.specs.Play.Laws.{sets-past}
-use Rattle.play.proofs.put_refusal.Statement.{statement}
-use Rattle.play.proofs.put_refusal.Tie as tie
+use Rattle.bits.specs.Stores.{sets-past}
+use Rattle.console.proofs.put_refusal.Statement.{statement}
+use Rattle.console.proofs.put_refusal.Tie as tie
 
 returns : tie.Need-returns
 unfolding refusalText

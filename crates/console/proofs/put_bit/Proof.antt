@@ -1,4 +1,4 @@
--- `play::put_bit` meets its contract: both characters where there is room for both, else the first, if there is room for it.
+-- `console::put_bit` meets its contract: both characters where there is room for both, else the first, if there is room for it.
 -- Each name says what was known after that call. Assumes nothing.
 use mathlib.Core.Path.{_≡_, sym}
 use mathlib.Core.Logic.{⊎-elim}
@@ -10,9 +10,9 @@ use borrow.Author.Tests.{ltb-false}
 use denote.Ref.{now}
 use lib.ListN.{length, length-set}
 use lib.Seq.{set-out}
-use Rattle.play.specs.Play.{bitText}
-use Rattle.play.proofs.put_bit.Statement.{statement}
-use Rattle.play.proofs.put_bit.Tie as tie
+use Rattle.console.specs.Console.{bitText}
+use Rattle.console.proofs.put_bit.Statement.{statement}
+use Rattle.console.proofs.put_bit.Tie as tie
 
 both : tie.Need-returns
 unfolding bitText

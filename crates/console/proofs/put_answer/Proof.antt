@@ -1,10 +1,10 @@
--- `play::put_answer` meets its contract, line bit and refusal apart. Assumes nothing.
+-- `console::put_answer` meets its contract, line bit and refusal apart. Assumes nothing.
 use borrow.Author.Needs.{needs}
 use borrow.Author.Tests.{ne-eqb}
 use Rattle.answer.specs.Answer.{refusalText}
-use Rattle.play.specs.Play.{answerText, bitText}
-use Rattle.play.proofs.put_answer.Statement.{statement}
-use Rattle.play.proofs.put_answer.Tie as tie
+use Rattle.console.specs.Console.{answerText, bitText}
+use Rattle.console.proofs.put_answer.Statement.{statement}
+use Rattle.console.proofs.put_answer.Tie as tie
 
 returns : tie.Need-returns
 unfolding answerText bitText

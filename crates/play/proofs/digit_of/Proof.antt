@@ -1,6 +1,0 @@
--- `play::digit_of` meets its contract. Assumes nothing.
-use Rattle.play.proofs.digit_of.Statement.{statement}
-use Rattle.play.proofs.digit_of.Tie as tie
-
-pub digit-of-spec : {M : Type 1} → statement M
-digit-of-spec = tie.close (tie.spec (λ c. simp (c .if1 .taken)) (λ c. simp (c .if1 .left)))
