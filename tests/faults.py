@@ -1,4 +1,5 @@
-"""Deliberate faults of the model, each a line or two changed, to show that sessions, dumps, trials and lists would catch them.
+"""Deliberate faults of the model, each a line or two changed, to show that sessions, dumps, trials, lists and boards would catch
+them.
 
 A fault names the file of the model, the text to be replaced, which must stand there exactly once, and its replacement.
 `load` gives the programs of a model with one fault, or another module of it; the model itself is left as it is.
@@ -11,7 +12,7 @@ import types
 from typing import NamedTuple
 
 FOLDER = pathlib.Path(__file__).parent / "model"
-MODULES = ("crc", "tag", "dock", "lists", "calls", "programs")
+MODULES = ("crc", "tag", "dock", "lists", "calls", "board", "programs")
 
 
 class Fault(NamedTuple):
@@ -530,4 +531,112 @@ LIST_FAULTS = (
     Fault("ended by a short reset", "lists", ALL_DONE, "        if word == 4:\n            return 0, done + 1\n" + ALL_DONE),
     Fault("at standard speed after a list", "lists", ALL_DONE, "    tag.overdrive = False\n" + ALL_DONE),
     Fault("answer 1 ends overdrive", "lists", REFUSED, "            tag.overdrive = False\n" + REFUSED),
+)
+
+# ---- Several tags on one line (request #106), for tests/lines ----
+
+# What is asked of a line and of a tick's place, and how slots, resets and ticks are given to the tags.
+COUNT = "    if not 1 <= len(roms) <= MOST_TAGS:\n        return 14\n"
+SAME = "    return 13 if len(set(roms)) < len(roms) else 0\n"
+PLACE = "        if code == TICK and place >= len(self.tags):\n            return 14\n"
+FIRST_BAD = "next((refusal for refusal, _ in made if refusal), 0)"
+SLOT = "min(tag.slot(master) for tag in self.tags)"
+RESETS = "min(tag.event(code, reading)[1] for tag in self.tags)"
+TICKED = "return self.tags[place].event(code, reading)"
+MATCHED = """\
+    def match(self):
+        for bit in self.rom_bits():
+            yield
+            if (yield 1) != bit:
+                return False
+        return True
+"""
+
+LINE_FAULTS = (
+    # The line's bit
+    Fault("the line's bit by OR", "board", SLOT, "max(tag.slot(master) for tag in self.tags)"),
+    Fault("the line's bit of the last tag alone", "board", SLOT, "[tag.slot(master) for tag in self.tags][-1]"),
+    Fault("the line's bit of the first tag alone", "board", SLOT, "[tag.slot(master) for tag in self.tags][0]"),
+    Fault("a slot not given to the last tag", "board", SLOT, "min(tag.slot(master) for tag in self.tags[:-1] or self.tags)"),
+    Fault("a slot not given behind a tag that gives 0", "board", SLOT, "int(all(tag.slot(master) for tag in self.tags))"),
+
+    # Resets
+    Fault("a short reset's presence by OR", "board", RESETS, "max(tag.event(code, reading)[1] for tag in self.tags)"),
+    Fault("a short reset's presence of the first tag alone", "board", RESETS,
+          "[tag.event(code, reading)[1] for tag in self.tags][0]"),
+    Fault("a reset not given to the last tag", "board", RESETS,
+          "min(tag.event(code, reading)[1] for tag in self.tags[:-1] or self.tags)"),
+    Fault("a short reset that one tag hears resets all", "board", "return 0, " + RESETS, """\
+bit = min(tag.event(code, reading)[1] for tag in self.tags)
+        if bit == 0:
+            for tag in self.tags:
+                tag.reset()
+        return 0, bit"""),
+
+    # Ticks
+    Fault("a tick reaches two tags", "board", TICKED, "self.tags[place - 1].event(code, reading)\n            " + TICKED),
+    Fault("a tick reaches every tag", "board", TICKED, "return 0, " + RESETS),
+    Fault("a tick reaches the first tag", "board", TICKED, TICKED.replace("[place]", "[0]")),
+    Fault("places counted from the last tag on", "board", TICKED, TICKED.replace("[place]", "[-1 - place]")),
+    Fault("places counted from 1 on", "board", TICKED, TICKED.replace("[place]", "[place - 1]")),
+
+    # 14, 13, and then place by place 4 and 5
+    Fault("14 asked after 13", "board", COUNT, "    if len(set(roms)) < len(roms):\n        return 13\n" + COUNT),
+    Fault("a count of 0 taken", "board", "if not 1 <= len(roms)", "if not 0 <= len(roms)"),
+    Fault("a count of 8 taken", "board", "MOST_TAGS = 7", "MOST_TAGS = 8"),
+    Fault("a count of 7 refused", "board", "MOST_TAGS = 7", "MOST_TAGS = 6"),
+    Fault("13 not asked", "board", SAME, "    return 0\n"),
+    Fault("13 for neighbours alone", "board", SAME, "    return 13 if any(map(bytes.__eq__, roms, roms[1:])) else 0\n"),
+    Fault("13 for the first tag's number alone", "board", SAME, "    return 13 if roms[0] in roms[1:] else 0\n"),
+    Fault("13 by the serial numbers alone", "board", SAME, "    return 13 if len({rom[1:7] for rom in roms}) < len(roms) else 0\n"),
+    Fault("13 not asked of zeros", "board", SAME, "    return 13 if len(set(roms)) < len(roms) and all(map(any, roms)) else 0\n"),
+    Fault("13 asked after 4 and 5", "board", FIRST_BAD + "\n",
+          FIRST_BAD + "\n    if number == 13:\n"
+          "        bad = [new_tag(rom, code, bytearray(IMAGE_LENGTH))[0] for rom, code in heads]\n"
+          "        number = next(filter(None, bad), 13)\n"),
+    Fault("4 of all places asked before 5 of any", "board", FIRST_BAD,
+          "min((refusal for refusal, _ in made if refusal), default=0)"),
+    Fault("the last bad place tells", "board", FIRST_BAD, "next((refusal for refusal, _ in made[::-1] if refusal), 0)"),
+    Fault("the first place alone asked for 4 and 5", "board", FIRST_BAD, "made[0][0]"),
+
+    # 14, 1 and 2 of events
+    Fault("a tick for no tag reaches the last", "board", "        number = self.refused(code, place, reading)\n",
+          "        place = min(place, len(self.tags) - 1)\n        number = self.refused(code, place, reading)\n"),
+    Fault("14 for the place of a slot or reset too", "board", "if code == TICK and place", "if place"),
+    Fault("14 for the place of a code above 4 too", "board", "if code == TICK and place",
+          "if (code == TICK or code > 4) and place"),
+    Fault("2 asked before 14", "board", PLACE,
+          "        if code == TICK and reading > LARGEST_READING:\n            return 2\n" + PLACE),
+    Fault("2 for the reading of any code", "board", "return 2 if code == TICK and reading", "return 2 if reading"),
+
+    # The program
+    Fault("missing bytes of a head are FFh", "programs", '.ljust(HEAD * count, b"\\0")', '.ljust(HEAD * count, b"\\xFF")'),
+    Fault("a place behind the reading", "programs", "lambda code, place, high, low:", "lambda code, high, low, place:"),
+    Fault("a short last group taken", "programs", "while len(group := file.read(width)) == width:\n",
+          'while group := file.read(width):\n        group = group.ljust(width, b"\\0")\n'),
+    Fault("events go on after a refusal", "programs", "else BIT[bit]\n        if number:\n            return\n", "else BIT[bit]\n"),
+
+    # Choosing one of several tags
+    Fault("a Match leaves other tags listening", "tag", MATCHED, """\
+    def match(self):
+        for _ in self.rom_bits():
+            yield
+            yield 1
+        return True
+"""),
+    Fault("a Match leaves the marks of other tags", "tag", "self.resume_mark = False\n        if command == CONDITIONAL_SEARCH",
+          "self.resume_mark &= command == MATCH_ROM\n        if command == CONDITIONAL_SEARCH"),
+    Fault("a short reset wakes the tags that a 69h silenced", "tag", UNHEARD,
+          "        if not self.overdrive and self.line is None:\n            self.reset()\n            return 1\n" + UNHEARD),
+)
+
+# Tags that mind what they hear while they send: for these it is not the same whether a tag hears the master's bit or the line's.
+HEARING_FAULTS = (
+    Fault("Read ROM ends at a bit that is not the tag's", "tag", "yield from say_bytes(self.rom)", """\
+for bit in self.rom_bits():
+                yield
+                if (yield bit) != bit:
+                    return False"""),
+    Fault("a tag drops out of Search at a bit that is not its own", "tag", "            yield bit\n            yield\n",
+          "            if (yield bit) != bit:\n                return False\n            yield\n"),
 )

@@ -44,14 +44,18 @@ class Session:
 
     def __init__(self, rng, master=Master):
         self.rng = rng
-        serial = bytes((FAMILY,)) + rng.randbytes(6)
-        self.rom = serial + bytes((crc8(serial),))
-        self.code = rng.choice((CODE_L, CODE_T))
-        self.tag = new(self.rom, self.code, bytearray(IMAGE_LENGTH))[1]
-        self.master = master(self.tag)
+        self.master = master(self.new_line())
         self.master.short = lambda: self.tag.overdrive and self.chance(0.5)
         if rng.random() < 0.3:
             self.master.stray_reading = lambda: rng.getrandbits(16)
+
+    def new_line(self):
+        """What the master plays to: a new tag."""
+        serial = bytes((FAMILY,)) + self.rng.randbytes(6)
+        self.rom = serial + bytes((crc8(serial),))
+        self.code = self.rng.choice((CODE_L, CODE_T))
+        self.tag = new(self.rom, self.code, bytearray(IMAGE_LENGTH))[1]
+        return self.tag
 
     def stdin(self):
         return self.rom + bytes((self.code,)) + bytes(self.master.triples)
@@ -128,6 +132,10 @@ class Session:
         else:
             self.master.skip()
 
+    def choose(self):
+        """The plainest way that always works."""
+        self.master.skip()
+
     def flipped_rom(self):
         return flipped(self.rom, self.rng.choice((0, 63, self.rng.randrange(64))))
 
@@ -154,7 +162,7 @@ class Session:
         return bytes(page)
 
     def store(self, address, data):
-        return self.master.store(address, data, self.full_password())
+        return self.master.store(address, data, self.full_password(), self.choose)
 
     def set_passwords(self, control=0xAA):
         """From 0227h to the page's end, so that nothing else is touched."""
@@ -181,14 +189,14 @@ class Session:
     def look(self):
         """All that a master can see, but for user memory and log."""
         self.master.before_slot = None
-        self.master.skip()
+        self.choose()
         self.master.read_scratchpad()
-        self.master.skip()
+        self.choose()
         self.master.read_memory(0x0200, 64, self.full_password())
         self.master.search(self.rom, conditional=True)
 
     def look_at(self, address, count):
-        self.master.skip()
+        self.choose()
         self.master.read_memory(address, count, self.full_password())
 
     def look_at_log(self):
@@ -813,12 +821,16 @@ def session(seed, number):
     name, kind = KINDS[at]
     played = Session(rng)
     kind(played)
-    stdin, expected = played.stdin(), bytes(played.master.answers)
+    return name, played.stdin() + rest(played, 3), bytes(played.master.answers)
+
+
+def rest(played, width):
+    """What may stand behind the events, which are so many bytes each: a short last group, which is dropped, or after a refusal
+    anything, as nothing more is read."""
+    rng = played.rng
     if not played.master.refused:
-        stdin += rng.randbytes(rng.choice((0, 0, 1, 2)))  # a short last group is dropped
-    elif rng.random() < 0.5:
-        stdin += rng.randbytes(rng.randrange(12))  # nothing is read after a refusal
-    return name, stdin, expected
+        return rng.randbytes(rng.choice((0, *range(width))))
+    return rng.randbytes(rng.randrange(12)) if rng.random() < 0.5 else b""
 
 
 def new_tag(rng):

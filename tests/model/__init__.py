@@ -1,1 +1,1 @@
-"""A model of the tag and of the dock, written from document 01 alone, to compare the programs with."""
+"""A model of the tag, of several on a line and of the dock, written from the documents alone, to compare the programs with."""

@@ -5,6 +5,7 @@ program has stopped, so a session must stop there too: `refused` says so.
 """
 
 from . import dock
+from .board import MOST_TAGS
 from .crc import crc16_sent
 from .tag import (
     CLEAR, CONDITIONAL_SEARCH, COPY_SCRATCHPAD, FORCED_CONVERSION, MATCH_ROM, OVERDRIVE_MATCH, OVERDRIVE_SKIP,
@@ -29,11 +30,15 @@ class Master:
     def event(self, code, reading=0):
         if self.refused:
             raise RuntimeError("an event after a refusal")
-        number, bit = self.tag.event(code, reading)
-        self.triples += bytes((code, reading >> 8, reading & 0xFF))
+        number, bit = self.give(code, reading)
         self.answers += b"R%02d\n" % number if number else b"%d\n" % bit
         self.refused = number
         return bit
+
+    def give(self, code, reading):
+        """The tag's answer to an event, which is kept."""
+        self.triples += bytes((code, reading >> 8, reading & 0xFF))
+        return self.tag.event(code, reading)
 
     def without_reading(self, code):
         return self.event(code, self.stray_reading() if self.stray_reading else 0)
@@ -107,6 +112,25 @@ class Master:
                 self.slot(byte >> place & 1)
         return given
 
+    def find(self, conditional=False):
+        """The numbers of all tags that join a search, one pass a number. Where two 0s come the tags part: the pass takes the way
+        of the 0, and a later one that of the 1, the latest parting first. One number too many ends it."""
+        found, ways = [], [[]]
+        while ways and len(found) <= MOST_TAGS:
+            way = ways.pop()
+            self.rom_command(CONDITIONAL_SEARCH if conditional else SEARCH_ROM)
+            for place in range(64):
+                bits = self.slot(RELEASED), self.slot(RELEASED)
+                if bits == (1, 1):  # nobody is there
+                    return found
+                if place == len(way):
+                    if bits == (0, 0):
+                        ways.append([*way, 1])
+                    way.append(bits[0])
+                self.slot(way[place])
+            found.append(sum(bit << place for place, bit in enumerate(way)).to_bytes(8, "little"))
+        return found
+
     # ---- Memory commands, once the tag is chosen ----
 
     def write_scratchpad(self, address, data):
@@ -160,11 +184,12 @@ class Master:
 
     # ---- Whole exchanges, with Skip ----
 
-    def store(self, address, data, password=ANY_PASSWORD):
-        """Writes to a page's end: Write Scratchpad, then Copy."""
-        self.skip()
+    def store(self, address, data, password=ANY_PASSWORD, choose=None):
+        """Writes to a page's end: Write Scratchpad, then Copy. `choose` chooses in another way than Skip."""
+        choose = choose or self.skip
+        choose()
         self.write_scratchpad(address, data)
-        self.skip()
+        choose()
         return self.copy((address & 0xFF, address >> 8, 0x1F), password)
 
     def take_dump(self, password=ANY_PASSWORD):
@@ -177,3 +202,27 @@ class Master:
                 return None
             lines.append(dock.line(page, data))
         return b"".join(lines)
+
+
+class BoardMaster(Master):
+    """The master of several tags, with their board for its tag. An event has a place too: `groups` is what the program shed reads
+    after its head."""
+
+    def __init__(self, board):
+        super().__init__(board)
+        self.groups = bytearray()
+        self.place = 0  # of the tag that a tick is for
+        self.ticked = None  # gives that place where a tick names none
+        self.stray_place = None  # gives the places of slots and resets, which don't count
+
+    def tick(self, reading, place=None):
+        if place is not None:
+            self.place = place
+        elif self.ticked:
+            self.place = self.ticked()
+        super().tick(reading)
+
+    def give(self, code, reading):
+        place = self.place if code == TICK else self.stray_place() if self.stray_place else 0
+        self.groups += bytes((code, place, reading >> 8, reading & 0xFF))
+        return self.tag.event(code, place, reading)

@@ -14,7 +14,7 @@ SESSION_FAULTS = (
     ("", MISUSED, "no frame"),
     ("# only a comment\n\n", MISUSED, "no frame"),
     ("04 40 41\n", MISUSED, "line 1: frame 04 takes 9 bytes"),
-    ("00\n", MISUSED, "line 1: the first frame is 04"), (NEW_TAG + NEW_TAG, MISUSED, "line 2: a new tag is the first frame only"),
+    ("00\n", MISUSED, "line 1: the first frame is 04"),
     (NEW_TAG + "01 C\n", MISUSED, "line 2: '01 C' is not pairs"), (NEW_TAG + "01 GG\n", MISUSED, "line 2: '01 GG' is not pairs"),
     (NEW_TAG + "\n07 00\n", MISUSED, "line 3: 07 is no frame"), (NEW_TAG + "?? 00\n", MISUSED, "line 2: ?? is no frame"),
     (NEW_TAG + "06\n", MISUSED, "06 is no frame: 00 reset, 01 write, 02 read, 03 tick, 04 new tag, 05 short reset"),

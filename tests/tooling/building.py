@@ -8,6 +8,7 @@ import time
 from .common import DONE, FAILED, READER, REFUSED, RUN, TOP, content, leftovers, one_line, start
 
 NEW_TAG = bytes.fromhex("412BC5FB000000A140")
+TWO_TAGS = b"\2" + NEW_TAG + bytes.fromhex("41D70AFC0000006540")
 PARTS = ("run", "reader", "crates.txt", "crates", "tools", "examples")
 NOBODY = 65534
 
@@ -27,7 +28,10 @@ def statuses():
             (["list"], dump[:-1] + b"\r", REFUSED, b"R07\n"), (["play"], NEW_TAG + b"\2\0\0\3\0\0", DONE, b"0\n1\n"),
             (["play"], NEW_TAG, DONE, b""), (["play"], b"", REFUSED, b"R04\n"),
             (["play"], NEW_TAG + b"\2\0\0\4\xFF\xFF", DONE, b"0\n1\n"),
-            (["play"], NEW_TAG + b"\2\0\0\5\0\0\2\0\0", REFUSED, b"0\nR01\n")):
+            (["play"], NEW_TAG + b"\2\0\0\5\0\0\2\0\0", REFUSED, b"0\nR01\n"),
+            (["shed"], TWO_TAGS + b"\2\0\0\0\3\1\0\0", DONE, b"0\n1\n"), (["shed"], TWO_TAGS, DONE, b""),
+            (["shed"], b"", REFUSED, b"R14\n"), (["shed"], b"\2" + 2 * NEW_TAG, REFUSED, b"R13\n"),
+            (["shed"], TWO_TAGS + b"\2\0\0\0\3\2\0\0\2\0\0\0", REFUSED, b"0\nR14\n")):
         done = start([RUN, *words], stdin)
         yield f"run {words} with {stdin[:20]}", (done.returncode, done.stdout) == (status, output), done
     for word in ("--help", "-h"):

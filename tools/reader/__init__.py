@@ -1,5 +1,5 @@
-"""The reader: readable sessions, dumps, tables, pictures and reports over the programs `play` and `list`. Nothing here is
-proved."""
+"""The reader: readable sessions, dumps, tables, pictures and reports over the programs `play`, `shed` and `list`. Nothing here
+is proved."""
 
 # The exit statuses of every command, of reader and of run.
 DONE, REFUSED, MISUSED, FAILED = range(4)

@@ -10,7 +10,7 @@ from .files import say
 
 MOST_TOLD = 10  # of the bytes that are not as a session says
 
-USAGE = """reader COMMAND ..      (nothing of the reader is proved; the programs play and list that it drives are, by .ci/run)
+USAGE = """reader COMMAND ..      (nothing of the reader is proved; the programs play, shed and list that it drives are, by .ci/run)
 
 {commands}
 
@@ -30,6 +30,11 @@ def session(given):
     return name, text, sessions.parse(text, name)
 
 
+def player(given, frames):
+    """The command that plays a session: that for one tag, or for several."""
+    return getattr(given, sessions.player_of(frames))
+
+
 def judged(name, wrong):
     """Whether the tag sent every byte that the session gives; wrong has a sentence for each other one, and the first are told."""
     for sentence in wrong[:MOST_TOLD]:
@@ -41,7 +46,7 @@ def judged(name, wrong):
 
 def play(given):
     name, text, frames = session(given)
-    answers = line.play(given.play, frames, name)
+    answers = line.play(player(given, frames), frames, name)
     files.write(given.output, sessions.filled(text, frames, answers))
     return judged(name, sessions.disagreements(frames, answers))
 
@@ -64,7 +69,8 @@ def take_dump(given):
 
 def dump(given):
     name, _, frames = session(given)
-    text, answers = line.take_dump(given.play, frames, password.ask(given), name)
+    place = sessions.place_in(frames, given.place, name)
+    text, answers = line.take_dump(player(given, frames), frames, password.ask(given), name, place)
     files.write(given.output, text)
     return judged(name, sessions.disagreements(frames, answers))
 
@@ -155,14 +161,14 @@ COMMANDS = {
                       (options.secret, options.seen, options.note, options.output)),
     "mend": Command(mend_dump, "[DUMP]", "takes away what a text editor or a mail program added to a dump, and nothing else",
                     (options.new_file, options.list_program)),
-    "play": Command(play, "SESSION", "plays a session to a new tag and prints it with the bytes read filled in",
-                    (options.output, options.play_program)),
-    "record": Command(record, "SESSION", "the same, in the strict form of a recording, which has no short reset",
+    "play": Command(play, "SESSION", "plays a session to new tags and prints it with the bytes read filled in",
+                    (options.output, options.play_program, options.shed_program)),
+    "record": Command(record, "SESSION", "the same of one tag, in the strict form of a recording, which has no short reset",
                       (options.output, options.play_program)),
     "take": Command(take_dump, "DEVICE", "reads a real tag's dump through the kernel's 1-Wire files (docs/TAKE.md)",
                     (options.secret, options.output)),
     "dump": Command(dump, "SESSION", "plays a session, then reads the dump over the line, by Read Memory",
-                    (options.secret, options.output, options.play_program)),
+                    (options.secret, options.place, options.output, options.play_program, options.shed_program)),
 }
 
 

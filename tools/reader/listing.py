@@ -8,7 +8,7 @@ from . import Misuse, Refusal
 REFUSALS = {
     1: "an event code above 4",
     2: "a tick with a reading above 2047",
-    3: "the image is not 8,832 bytes long",
+    3: "the image is not 8,832 bytes long, or of several tags not 8,832 times their count",
     4: "a new tag whose first ROM byte is not 41h, or whose CRC-8 is wrong",
     5: "a new tag whose code is neither 40h (DS1922L) nor 60h (DS1922T)",
     6: "a record that breaks its ranges",
@@ -18,6 +18,8 @@ REFUSALS = {
     10: "the tag's memory is cleared (MEMCLR is 1): there is no mission to list",
     11: "the dump can't be of a mission: its code, sample rate, ETL bit or counts",
     12: "fewer places for temperatures than entries held",
+    13: "two tags with the same number",
+    14: "a count of tags of 0 or above 7, or a tick for a tag place that isn't there",
     17: "fewer reply bytes than the list of events has words",
 }
 DEVICES = {0x40: "DS1922L", 0x60: "DS1922T"}

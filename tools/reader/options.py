@@ -59,7 +59,9 @@ def seen(parser):
     parser.add_argument("--zone", type=view.zone_name, help="times in a zone too, as UTC+02:00 or Europe/Paris")
     parser.add_argument("--clock", metavar="ZONE", type=view.zone_name, default="UTC",
                         help="what the tag's clock was set to (UTC)")
+    place(parser)
     play_program(parser)
+    shed_program(parser)
     list_program(parser)
 
 
@@ -77,9 +79,18 @@ def new_file(parser):
     parser.add_argument("-o", "--output", metavar="NEW", required=True, help="where to write: another file than the one given")
 
 
+def place(parser):
+    parser.add_argument("--place", metavar="N", type=place_number, help="which tag of a session with several, from 0 on")
+
+
 def play_program(parser):
     parser.add_argument("--play", metavar="COMMAND", type=program, default=programs.PLAY,
                         help="another program in place of ./run play")
+
+
+def shed_program(parser):
+    parser.add_argument("--shed", metavar="COMMAND", type=program, default=programs.SHED,
+                        help="another program in place of ./run shed, which plays sessions of several tags")
 
 
 def list_program(parser):
@@ -104,6 +115,12 @@ def rom(text):
         raise argparse.ArgumentTypeError(
             f"'{text}' is no registration number: 16 digits, the first two 41, the last two the CRC-8 of the others")
     return number
+
+
+def place_number(text):
+    if not re.fullmatch(r"[0-9]{1,9}", text):
+        raise argparse.ArgumentTypeError(f"'{text}' is no place: 0, 1, 2 ..")
+    return int(text)
 
 
 def note_text(text):

@@ -1,4 +1,4 @@
-"""Running the programs `play` and `list`, or others in their place, and which builds of them there are."""
+"""Running the programs `play`, `shed` and `list`, or others in their place, and which builds of them there are."""
 
 import hashlib
 import os
@@ -10,7 +10,7 @@ from . import MISUSED, REFUSED, Fault, Misuse, files, reason
 
 TOP = os.path.dirname(os.path.dirname(os.path.dirname(os.path.realpath(__file__))))
 RUN = os.path.join(TOP, "run")
-PLAY, LIST = [RUN, "play"], [RUN, "list"]
+PLAY, SHED, LIST = [RUN, "play"], [RUN, "shed"], [RUN, "list"]
 REFUSAL = re.compile(rb"R([0-9]{2})\n")
 BUILD = re.compile(r"run: (\w+): (\S+), (proved|NOT PROVED).*")
 
@@ -39,7 +39,7 @@ def refusal_in(output):
 
 def build_of(command):
     """Which build a command runs; ours is built where that is needed."""
-    if [os.path.realpath(command[0]), *command[1:]] not in (PLAY, LIST):
+    if [os.path.realpath(command[0]), *command[1:]] not in (PLAY, SHED, LIST):
         return Build(files.printable(" ".join(command)), None, None, None)
     said = BUILD.fullmatch(run([RUN, "--build", command[1]], b"").decode().strip())
     if not said:

@@ -7,7 +7,8 @@ PROVED = (
     "Every function of the program list that judges the dump and works out and writes the listing: which entries the log holds, "
     "each one's seconds from the stamp and its temperature in sixteenths of a degree, for every dump. The build is taken for "
     "proved because rt check or .ci/run made it and no source, definition or proof is newer; .ci/run proves all from nothing.")
-PLAYED = " So are the functions of the program play, the tag whose dump this is."
+PLAYED = {"play": " So are the functions of the program play, the tag whose dump this is.",
+          "shed": " So are the functions of the program shed, to one of whose tags this dump belongs."}
 TESTED = "That list prints the pieces of the listing one after the other: its function main is proved to be safe and to end."
 ASSUMED = "The contracts of the C functions that the programs call for input and output, and the compiler's back end."
 NOTHING = "Nothing on this page. A page made with proved builds says so here; .ci/run makes them."
@@ -25,7 +26,7 @@ def warnings(source):
         yield (f"The session is not as recorded: {len(source.disagreements):,} of its bytes differ from what the tag sent; the "
                f"first: {source.disagreements[0]}.")
     if source.kind == SESSION:
-        yield "No real tag was read: the dump is that of a tag played by the program play, from a session."
+        yield f"No real tag was read: the dump is that of a tag played by the program {source.player}, from a session."
     if not source.builds:
         yield "Made from a listing of unknown origin: nothing on this page rests on a proof."
     elif not all_proved(source):
@@ -39,7 +40,7 @@ def all_proved(source):
 def rows(source):
     """Pairs of a name and words."""
     if all_proved(source):
-        yield "Proved", PROVED + (PLAYED if source.kind == SESSION else "")
+        yield "Proved", PROVED + PLAYED.get(source.player, "")
         yield "Tested", TESTED
         yield "Assumed", ASSUMED
     else:

@@ -1,56 +1,87 @@
 """Sessions: what a master does on the line, as frames in hexadecimal, one a line.
 
-    04 40 412BC5FB000000A1   a new tag: the code, then the eight ROM bytes; the first frame, and there alone
+    04 40 412BC5FB000000A1   a new tag: the code, then the eight ROM bytes; the first frames, one for each tag on the line
     00                       reset: the long one, which ends overdrive
     01 CC 69 00 02           bytes written
     02 41 ?? ??              bytes read: ?? is any byte, a byte that is given is compared with what the tag sends
-    03 0150                  a tick of one second with its reading, high byte first, 07FF at most
+    03 0150                  a tick of one second with its reading, high byte first, 07FF at most: for each tag in turn
+    03 0150 @1               a tick for the tag at place 1 alone: places count from 0, in the order of the new tags
     05                       short reset: at overdrive a reset that keeps the speed, at standard speed nothing at all
     03 0150 x3600            a frame that many times; 02 ?? x34 reads 34 bytes
 
+A session with one new tag is for the program `play`, one with two to seven for `shed`: resets and slots go to all of them.
 Blanks may stand anywhere between bytes, # begins a comment, lower case is taken. The strict form has none of these: upper
-case pairs alone, a line for each frame, 64 bytes at most in a line. It has the frames 00 to 04 alone, and none for a short reset.
+case pairs alone, a line for each frame, 64 bytes at most in a line. It has the frames 00 to 04 alone, and none for a short reset;
+and it is of one tag.
 """
 
 import re
 from collections import namedtuple
+from itertools import takewhile
 
 from . import Misuse
 
 RESET, WRITE, READ, TICK, NEW_TAG, SHORT_RESET = range(6)
 ANY = None  # a byte to be read, whatever it is
 LARGEST_READING = 2047
+MOST_TAGS = 7  # on a line
 LARGEST_SESSION = 20_000_000  # events; a tick a second makes 231 days
 STRICT_BYTES = 63  # in a line beside the frame's own
 
-# data: its bytes, ANY for ??; line: its number in the file, 0 for a frame that stands in none
-Frame = namedtuple("Frame", "kind data times line", defaults=(1, 0))
+# data: its bytes, ANY for ??; line: its number in the file, 0 for a frame that stands in none; place: of the tag that a tick is
+# for, None if it is for every tag
+Frame = namedtuple("Frame", "kind data times line place", defaults=(1, 0, None))
 
 PAIR = re.compile(r"[0-9A-Fa-f]{2}|\?\?")
 BODY = re.compile(r"(?:[0-9A-Fa-f]{2}|\?\?)+")
 TIMES = re.compile(r"x([0-9]{1,9})")
+PLACE = re.compile(r"@([0-9]{1,9})")
 
 
-def events_in(frame):
-    return frame.times * (8 * len(frame.data) if frame.kind in (WRITE, READ) else 1)
+def tags_in(frames):
+    """The frames of the new tags, in the order of their places."""
+    return list(takewhile(lambda frame: frame.kind == NEW_TAG, frames))
+
+
+def player_of(frames):
+    """The name of the program that a session is for."""
+    return "shed" if len(tags_in(frames)) > 1 else "play"
+
+
+def ticked(frame, tags):
+    """The places that a tick is for, on a line of so many tags."""
+    return range(tags) if frame.place is None else (frame.place,)
+
+
+def events_in(frame, tags):
+    """How many events a frame is, on a line of so many tags. A new tag is none."""
+    if frame.kind in (WRITE, READ):
+        return frame.times * 8 * len(frame.data)
+    return frame.times * {NEW_TAG: 0, TICK: len(ticked(frame, tags))}.get(frame.kind, 1)
+
+
+def all_events(frames):
+    tags = len(tags_in(frames))
+    return sum(events_in(frame, tags) for frame in frames)
 
 
 # ---- Reading a session ----
 
 def parse(text, name):
-    """The frames of a session; its first is the new tag."""
+    """The frames of a session; its first are the new tags."""
     frames = []
     for number, line in enumerate(text.split("\n"), 1):
         try:
             frame = parse_line(line, number)
             if frame:
-                check(frame, not frames)
+                check(frame, frames)
+                check_place(frame, frames)
                 frames.append(frame)
         except ValueError as error:
             raise Misuse(f"{name}, line {number}: {error}") from None
     if not frames:
         raise Misuse(f"{name}: no frame; a session begins with 04, the code and eight ROM bytes")
-    if sum(map(events_in, frames)) > LARGEST_SESSION:
+    if all_events(frames) > LARGEST_SESSION:
         raise Misuse(f"{name}: more than {LARGEST_SESSION:,} events")
     return frames
 
@@ -60,21 +91,31 @@ def parse_line(line, number):
     words = line.split("#")[0].split()
     if not words:
         return None
-    times = TIMES.fullmatch(words[-1])
-    body = "".join(words[:-1] if times else words)
+    times, place = taken(words, TIMES, 1), taken(words, PLACE, None)
+    body = "".join(words)
     if not BODY.fullmatch(body):
         raise ValueError(f"'{line.split('#')[0].strip()[:40]}' is not pairs of hexadecimal digits")
     kind, *data = (ANY if pair == "??" else int(pair, 16) for pair in PAIR.findall(body))
-    return Frame(kind, data, int(times[1]) if times else 1, number)
+    return Frame(kind, data, times, number, place)
 
 
-def check(frame, first):
-    """A ValueError says what is wrong with a frame."""
+def taken(words, form, without):
+    """Takes the last word away if it has this form, and gives its number; else what holds without one."""
+    found = form.fullmatch(words[-1]) if words else None
+    return int(words.pop()[1:]) if found else without
+
+
+def check(frame, before):
+    """A ValueError says what is wrong with a frame, behind those before it."""
     kind, data = frame.kind, frame.data
     if kind is ANY or kind > SHORT_RESET:
         raise ValueError(f"{hex_of([kind])} is no frame: 00 reset, 01 write, 02 read, 03 tick, 04 new tag, 05 short reset")
-    if first != (kind == NEW_TAG):
-        raise ValueError("the first frame is 04, the code and eight ROM bytes" if first else "a new tag is the first frame only")
+    if not before and kind != NEW_TAG:
+        raise ValueError("the first frame is 04, the code and eight ROM bytes")
+    if kind == NEW_TAG and before and before[-1].kind != NEW_TAG:
+        raise ValueError("new tags come before all other frames")
+    if kind == NEW_TAG and len(before) == MOST_TAGS:
+        raise ValueError(f"an eighth tag, and a line has {MOST_TAGS} at most")
     if kind != READ and ANY in data:
         raise ValueError("?? is for bytes read, in frame 02, alone")
     if frame.times == 0 or kind == NEW_TAG and frame.times > 1:
@@ -86,6 +127,31 @@ def check(frame, first):
         raise ValueError(f"frame {kind:02X} takes one byte or more after its own")
     if kind == TICK and data[0] << 8 | data[1] > LARGEST_READING:
         raise ValueError(f"the reading {data[0]:02X}{data[1]:02X} is above 07FF")
+
+
+def check_place(frame, before):
+    if frame.place is None:
+        return
+    if frame.kind != TICK:
+        raise ValueError("@ and a place are for a tick, frame 03, alone")
+    tags = len(tags_in(before))
+    if frame.place >= tags:
+        raise ValueError(f"there is no tag at place {frame.place}: {places(tags)}")
+
+
+def places(tags):
+    """Where tags are, in words."""
+    return f"places are 0 to {tags - 1}" if tags > 1 else "the session has one tag, at place 0"
+
+
+def place_in(frames, asked, name):
+    """The place of the tag that is asked for. With several tags it must be."""
+    tags = len(tags_in(frames))
+    if asked is None and tags > 1:
+        raise Misuse(f"{name} has {tags} tags: say which with --place; {places(tags)}")
+    if asked is not None and asked >= tags:
+        raise Misuse(f"--place: there is no tag at place {asked} in {name}: {places(tags)}")
+    return asked or 0
 
 
 # ---- Writing one ----
@@ -115,7 +181,10 @@ def filled_line(line, frame, answer):
 
 
 def check_recordable(frames, name):
-    """A recording is there to hold another tag against, and its form has no frame for a short reset."""
+    """A recording is there to hold another tag against, and its form has no frame for a short reset, nor for a second tag."""
+    tags = tags_in(frames)
+    if len(tags) > 1:
+        raise Misuse(f"{name}, line {tags[1].line}: a second tag, and a recording is of one")
     for frame in frames:
         if frame.kind == SHORT_RESET:
             raise Misuse(f"{name}, line {frame.line}: a short reset (05), which a recording has no frame for")

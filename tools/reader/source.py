@@ -18,6 +18,7 @@ class Source:
     name: str
     kind: str
     digest: str  # SHA-256 of the file
+    player: str = None  # the name of the program that a session is for
     rom: bytes = None  # the registration number
     rom_from: str = "a dump has no registration number, and --rom gave none"
     dump: bytes = None
@@ -52,6 +53,8 @@ def load(given):
     """All that is known of the file that was named."""
     data, name = files.read(given.file), files.name_of(given.file)
     source = Source(name, kind_of(data, name), evidence.digest(data))
+    if given.place is not None and source.kind != SESSION:
+        raise Misuse(f"--place is for a session of several tags, and {name} is a {source.kind}")
     if given.rom:
         source.rom, source.rom_from = given.rom, "given with --rom"
     if source.kind == LISTING:
@@ -71,15 +74,18 @@ def load(given):
 
 def play_session(source, given, text):
     frames = sessions.parse(text, source.name)
-    rom = bytes(frames[0].data[1:])
+    place = sessions.place_in(frames, given.place, source.name)
+    tags = sessions.tags_in(frames)
+    rom = bytes(tags[place].data[1:])
     if source.rom not in (None, rom):
         raise Misuse(f"--rom is {source.rom.hex().upper()}, and the session's tag {rom.hex().upper()}")
-    source.rom, source.rom_from = rom, "by the session"
+    source.rom, source.rom_from = rom, f"by the session, at place {place}" if len(tags) > 1 else "by the session"
     secret = password.ask(given)
-    source.builds.append(programs.build_of(given.play))
-    say(f"playing {source.name}: {sum(map(sessions.events_in, frames[1:])):,} events, "
-        f"then {len(line.PAGES)} pages by Read Memory ..")
-    dump, answers = line.take_dump(given.play, frames, secret, source.name)
+    source.player = sessions.player_of(frames)
+    player = getattr(given, source.player)
+    source.builds.append(programs.build_of(player))
+    say(f"playing {source.name}: {sessions.all_events(frames):,} events, then {len(line.PAGES)} pages by Read Memory ..")
+    dump, answers = line.take_dump(player, frames, secret, source.name, place)
     source.dump = dump.encode()
     source.disagreements = sessions.disagreements(frames, answers)
 
