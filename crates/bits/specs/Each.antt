@@ -1,7 +1,7 @@
 -- A test that is computed at every number below a bound, and what it shows of each: how a table's rule is proved once for
 -- the whole table. Assumes nothing.
 use mathlib.Core.Path.{_≡_, refl, subst, sym, ap, _∙_}
-use mathlib.Core.Bool.{Bool, true, false, _&&_, true≢false}
+use mathlib.Core.Bool.{Bool, true, false, _&&_, and-comm, true≢false}
 use mathlib.Core.Logic.{⊎-elim}
 use Prim.Native.Nat.{ℕ, zero, suc, _<_}
 use native.Mathlib.Nat.{eq-or-lt-of-le, le-of-suc-le-suc, not-suc-le-zero}
@@ -72,3 +72,7 @@ each-fails (suc n) f e = by (f n) refl (each-fails n f) e
 pub each-same : (n : ℕ) (f g : ℕ → Bool) → ((k : ℕ) → k < n → f k ≡ g k) → each n f ≡ each n g
 each-same zero f g h = refl
 each-same (suc n) f g h = λ i. h n (omega arith) i && each-same n f g (λ k lt. h k (omega arith)) i
+
+-- one more of them is tested
+pub each-next : (n : ℕ) (f : ℕ → Bool) (so next : Bool) → so ≡ each n f → next ≡ f n → (so && next) ≡ each (suc n) f
+each-next n f so next p q = rw (p, q) (and-comm (each n f) (f n))

@@ -17,6 +17,7 @@ pub mod Laws
 pub mod Numbers
 pub mod Places
 pub mod Reading
+pub mod Visits
 
 -- ---- places: "places count from 0; the tag at place i has bytes 8,832 i to 8,832 i + 8,831 of the block"
 
@@ -104,14 +105,14 @@ reached code reading place l =
       line = l .line && o .answered .line;
     }
 
--- "A slot or reset goes to all": so many are left, from a place on
-unfoldable pub given : ℕ → ℕ → ℕ → Going → Going
-given code place zero l = l
-given code place (suc left) l = given code (place + 1) left (reached code 0 place l)
+-- place by place: so many are left, from a place on
+unfoldable pub across : (ℕ → Going → Going) → ℕ → ℕ → Going → Going
+across visit place zero l = l
+across visit place (suc left) l = across visit (place + 1) left (visit place l)
 
--- "a tick names its tag"
+-- "a tick names its tag"; "A slot or reset goes to all"
 unfoldable pub taken : Going → ℕ → ℕ → ℕ → Going
-taken l code place reading = if eqb code 3 then reached 3 reading place l else given code 0 (l .board .count) l
+taken l code place reading = if eqb code 3 then reached 3 reading place l else across (reached code 0) 0 (l .board .count) l
 
 abbrev pub accepted : Going → Left
 accepted l = record { shown = record { board = l .board; answer = Answer.Accepted; line = l .line }; block = l .block }
@@ -150,12 +151,8 @@ newAt numbers codes place l =
     let o : Outcome = newTag (imageAt (l .block) place) (getD numbers place 0) (getD codes place 0) in
     record { block = withImage (l .block) place (o .image); board = withTag (l .board) place (o .answered .tag); line = true }
 
-unfoldable pub made : List ℕ → List ℕ → ℕ → ℕ → Going → Going
-made numbers codes place zero l = l
-made numbers codes place (suc left) l = made numbers codes (place + 1) left (newAt numbers codes place l)
-
 unfoldable pub newLine : List ℕ → List ℕ → List ℕ → Left
 newLine block numbers codes =
     let answer : Answer = newJudged (length block) numbers codes in
-    if eqb (answerNumber answer) 0 then accepted (made numbers codes 0 (length numbers) (begun block (emptyBoard (length numbers))))
+    if eqb (answerNumber answer) 0 then accepted (across (newAt numbers codes) 0 (length numbers) (begun block (emptyBoard (length numbers))))
     else refusal answer block (emptyBoard 0)

@@ -6,11 +6,12 @@ use mathlib.Core.Path.{_≡_, refl, sym, ap, _∙_}
 use mathlib.Core.Logic.{dite}
 use Prim.Native.Nat.{ℕ, _+_, _*_, _-_, _≤_, _<_}
 use native.Mathlib.Decide.{decLt}
+use native.Mathlib.Numerals.{add-one}
 use native.Mathlib.Omega.{arith}
 use borrow.Author.Needs.{needs}
 use lib.ListN.{length, getD, set, take, length-set, length-map}
 use lib.Seq.{length-take-le, getD-take, getD-set-same, getD-set-other}
-use Rattle.bits.specs.Each.{each}
+use Rattle.bits.specs.Each.{each, each-next}
 use Rattle.event.specs.Event.{tickTag}
 use Rattle.record.specs.declared.Answered.{Answered}
 use Rattle.record.specs.declared.Tag.{Tag}
@@ -19,10 +20,10 @@ use Rattle.board.specs.declared.Board.{Board}
 use Rattle.answer.specs.Answer.{answerNumber}
 use Rattle.answer.specs.Answer.Laws.{accepted-is}
 use Rattle.answer.specs.declared.Answer.{Answer}
-use Rattle.board.specs.Board.{tagAt, withTag, numberAt, sameNumber, judged, Left, Going, begun, given, accepted}
-use Rattle.board.specs.Board.Laws.{counted, Passed, passed, placesOf, places-some, places-counted, judged-by, line-refused, line-taken, taken-tick, taken-given, given-all, given-next, given-over, tick-named, tick-low, heard, reached-heard, reached-ticked}
+use Rattle.board.specs.Board.{tagAt, withTag, numberAt, sameNumber, judged, Left, Going, begun, reached, across, accepted}
+use Rattle.board.specs.Board.Laws.{counted, Passed, passed, placesOf, places-some, places-counted, judged-by, line-refused, line-taken, taken-tick, taken-given, across-all, across-next, across-over, tick-named, tick-low, heard, reached-heard, reached-ticked}
 use Rattle.board.specs.Board.Places.{Has, part-is, put-is, length-image, length-with}
-use Rattle.board.specs.Board.Reading.{read-is, numbers-next, each-next, same-read}
+use Rattle.board.specs.Board.Reading.{read-is, numbers-next, same-read}
 use Rattle.board.proofs.event.Statement.{statement}
 use Rattle.board.proofs.event.Tie as tie
 
@@ -47,7 +48,7 @@ abbrev μ-loop : tie.MeasureT-loop
 abbrev Inv-loop2 : tie.InvT-loop2
 Inv-loop2 block₀ code place reading count tags₀ good end i same answer line₀ at₀ block tags line at =
     (at ≤ count) × (length block ≡ length block₀) × (length tags ≡ 7)
-    × (given code at (count - at) (going block tags count line) ≡ given code 0 count (going block₀ tags₀ count true))
+    × (across (reached code 0) at (count - at) (going block tags count line) ≡ across (reached code 0) 0 count (going block₀ tags₀ count true))
 
 abbrev μ-loop2 : tie.MeasureT-loop2
 μ-loop2 block₀ code place reading count tags₀ good end i same answer line₀ at₀ block tags line at = count - at
@@ -68,7 +69,8 @@ loop-again c =
       l .inv .2,
       length-set (l .numbers) (l .i) _ ∙ l .inv .3,
       numbers-next (l .numbers) (numberAt (a .board)) (l .i) _ (omega (arith, there, l .inv .3)) (l .inv .4) (ap (λ (t : Tag). t .exchange .number) own),
-      c .both .ensures ∙ each-next (l .i) _ (l .good) _ (l .inv .5) (c .before .in-range .ensures ∙ ap tagInRange own),
+      c .both .ensures
+      ∙ rw (add-one (l .i)) (each-next (l .i) _ (l .good) _ (l .inv .5) (c .before .in-range .ensures ∙ ap tagInRange own)),
     )
 
 -- ---- what is judged
@@ -153,7 +155,7 @@ returns c =
 -- ---- slots and resets
 
 loop2-holds : tie.Need-loop2-holds Inv-loop μ-loop Inv-loop2 μ-loop2
-loop2-holds c = (omega arith, refl, search (needs, length-into), given-all _ _ _)
+loop2-holds c = (omega arith, refl, search (needs, length-into), across-all _ _ _)
 
 loop2-again : tie.Need-loop2-again Inv-loop μ-loop Inv-loop2 μ-loop2
 unfolding withTag
@@ -176,14 +178,14 @@ loop2-again c =
       omega (arith, test),
       ap length put ∙ length-with (l .block) (l .at) has (hear .last .0) whole ∙ l .inv .1,
       length-set (l .tags) (l .at) (hear .result .tag) ∙ l .inv .2,
-      ap (given (a .code) (l .at + 1) (a .board .count - (l .at + 1)))
+      ap (across (reached (a .code) 0) (l .at + 1) (a .board .count - (l .at + 1)))
       ((λ i. record {
         block = put i;
         board = record { tags = set (l .tags) (l .at) (hear .result .tag); count = a .board .count };
         line = c .both2 .ensures i;
       })
       ∙ sym next)
-      ∙ given-next (a .code) (l .at) (a .board .count) (going (l .block) (l .tags) (a .board .count) (l .line)) test ∙ l .inv .3,
+      ∙ across-next (reached (a .code) 0) (l .at) (a .board .count) (going (l .block) (l .tags) (a .board .count) (l .line)) test ∙ l .inv .3,
     )
 
 returns-2 : tie.Need-returns-2 Inv-loop μ-loop Inv-loop2 μ-loop2
@@ -194,7 +196,7 @@ returns-2 c =
     let e =
     line-taken (a .block .now) (a .board) (a .code) (a .place) (a .reading) (accepts then)
     ∙ ap accepted (taken-given (begun (a .block .now) (a .board)) (a .code) (a .place) (a .reading) (c .before .before .if2 .left)
-    ∙ sym (l .inv .3) ∙ given-over (a .code) (l .at) (a .board .count) (going (l .block) (l .tags) (a .board .count) (l .line)) (c .loop2-test .left)) in (
+    ∙ sym (l .inv .3) ∙ across-over (reached (a .code) 0) (l .at) (a .board .count) (going (l .block) (l .tags) (a .board .count) (l .line)) (c .loop2-test .left)) in (
       ap (λ (x : Answer). record { board = of (l .tags) (a .board .count); answer = x; line = l .line }) (zero-is then) ∙ sym (ap (λ (o : Left). o .shown) e),
       sym (ap (λ (o : Left). o .block) e),
     )

@@ -12,8 +12,8 @@ use Rattle.answer.specs.Answer.Laws.{accepted-is}
 use Rattle.answer.specs.declared.Answer.{Answer}
 use Rattle.record.specs.declared.Tag.{Tag}
 use Rattle.board.specs.declared.Board.{Board}
-use Rattle.board.specs.Board.{withTag, newJudged, Left, Going, begun, emptyBoard, made, accepted}
-use Rattle.board.specs.Board.Laws.{counted, Good, good, new-refused, new-taken, made-all, made-at, made-next, made-over}
+use Rattle.board.specs.Board.{withTag, newJudged, Left, Going, begun, emptyBoard, newAt, across, accepted}
+use Rattle.board.specs.Board.Laws.{counted, Good, good, new-refused, new-taken, across-all, made-at, across-next, across-over}
 use Rattle.board.specs.Board.Places.{Has, part-is, put-is, length-image, length-with}
 use Rattle.board.proofs.new.Statement.{statement}
 use Rattle.board.proofs.new.Tie as tie
@@ -27,8 +27,8 @@ going block tags count = record { block = block; board = of tags count; line = t
 abbrev Inv-loop : tie.InvT-loop
 Inv-loop block₀ numbers codes tags₀ answer i₀ block tags i =
     (i ≤ length numbers) × (length block ≡ length block₀) × (length tags ≡ 7)
-    × (made numbers codes i (length numbers - i) (going block tags (length numbers))
-    ≡ made numbers codes 0 (length numbers) (begun block₀ (emptyBoard (length numbers))))
+    × (across (newAt numbers codes) i (length numbers - i) (going block tags (length numbers))
+    ≡ across (newAt numbers codes) 0 (length numbers) (begun block₀ (emptyBoard (length numbers))))
 
 abbrev μ-loop : tie.MeasureT-loop
 μ-loop block₀ numbers codes tags₀ answer i₀ block tags i = length numbers - i
@@ -56,8 +56,8 @@ loop-holds c =
       omega arith,
       refl,
       refl,
-      made-all (a .numbers .now) (a .codes .now) (length (a .numbers .now)) _
-      ∙ ap (λ (t : Tag). made (a .numbers .now) (a .codes .now) 0 (length (a .numbers .now)) (going (a .block .now) (replicate 7 t) (length (a .numbers .now))))
+      across-all (newAt (a .numbers .now) (a .codes .now)) (length (a .numbers .now)) _
+      ∙ ap (λ (t : Tag). across (newAt (a .numbers .now) (a .codes .now)) 0 (length (a .numbers .now)) (going (a .block .now) (replicate 7 t) (length (a .numbers .now))))
       (c .before .before .before .fresh .ensures),
     )
 
@@ -86,9 +86,9 @@ loop-again c =
       omega (arith, test),
       ap length put ∙ length-with (l .block) (l .i) has (new .last .0) whole ∙ l .inv .1,
       length-set (l .tags) (l .i) (new .result .tag) ∙ l .inv .2,
-      ap (made (a .numbers .now) (a .codes .now) (l .i + 1) (count - (l .i + 1)))
+      ap (across (newAt (a .numbers .now) (a .codes .now)) (l .i + 1) (count - (l .i + 1)))
       ((λ i. going (put i) (set (l .tags) (l .i) (new .result .tag)) count) ∙ sym next)
-      ∙ made-next (a .numbers .now) (a .codes .now) (l .i) count (going (l .block) (l .tags) count) test ∙ l .inv .3,
+      ∙ across-next (newAt (a .numbers .now) (a .codes .now)) (l .i) count (going (l .block) (l .tags) count) test ∙ l .inv .3,
     )
 
 returns-2 : tie.Need-returns-2 Inv-loop μ-loop
@@ -101,7 +101,7 @@ returns-2 c =
     let j = fine .before .before .judge-new .ensures in
     let e =
     new-taken (a .block .now) (a .numbers .now) (a .codes .now) (ap answerNumber (sym j) ∙ zero)
-    ∙ ap accepted (sym (l .inv .3) ∙ made-over (a .numbers .now) (a .codes .now) (l .i) count (going (l .block) (l .tags) count) (c .loop-test .left)) in (
+    ∙ ap accepted (sym (l .inv .3) ∙ across-over (newAt (a .numbers .now) (a .codes .now)) (l .i) count (going (l .block) (l .tags) count) (c .loop-test .left)) in (
       ap (λ (x : Answer). record { board = of (l .tags) count; answer = x; line = true }) (accepted-is _ zero) ∙ sym (ap (λ (o : Left). o .shown) e),
       sym (ap (λ (o : Left). o .block) e),
     )

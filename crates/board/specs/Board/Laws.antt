@@ -3,9 +3,9 @@ use mathlib.Core.Bool.{Bool, true, false, not, _&&_, _||_, false≢true}
 use mathlib.Core.Path.{_≡_, refl, sym, ap, _∙_}
 use mathlib.Core.List.{List}
 use mathlib.Core.Logic.{_≢_, dite}
-use Prim.Native.Nat.{ℕ, suc, _+_, _*_, _-_, _≤_, _<_}
+use Prim.Native.Nat.{ℕ, zero, suc, _+_, _*_, _-_, _≤_, _<_}
 use native.Mathlib.Decide.{decLt, ℕ-discrete}
-use native.Mathlib.Nat.{sub-zero}
+use native.Mathlib.Nat.{sub-zero, zero-add}
 use native.Mathlib.Omega.{arith}
 use borrow.Author.Tests.{eqb-true, leb-true, leb-false, ltb-false, eq-eqb, ne-eqb, lt-ltb, le-ltb, le-leb, lt-leb}
 use lib.Dec.{eqb, leb, ltb}
@@ -20,7 +20,7 @@ use Rattle.record.specs.declared.Tag.{Tag}
 use Rattle.record.specs.Record.{Outcome, goodNumber, goodCode, tagInRange}
 use Rattle.tag.specs.Tag.{newTag, eventOf}
 use Rattle.tag.specs.Tag.Laws.{event-slot, event-reset, event-short, event-tick}
-use Rattle.board.specs.Board.{imageAt, withImage, tagAt, withTag, numberAt, isCount, namesNone, isHigh, sameNumber, judgedBy, judged, Left, refusal, Going, begun, reached, given, taken, accepted, lineStep, newFault, newJudged, emptyBoard, newAt, made, newLine}
+use Rattle.board.specs.Board.{imageAt, withImage, tagAt, withTag, numberAt, isCount, namesNone, isHigh, sameNumber, judgedBy, judged, Left, refusal, Going, begun, reached, across, taken, accepted, lineStep, newFault, newJudged, emptyBoard, newAt, newLine}
 use Rattle.board.specs.declared.Board.{Board}
 
 -- ---- a slot or a reset of one tag
@@ -138,24 +138,38 @@ pub taken-tick : (l : Going) (code place reading : ℕ) → code ≡ 3 → taken
 unfolding taken
 taken-tick l code place reading three = rw (eq-eqb code 3 three)
 
-pub taken-given : (l : Going) (code place reading : ℕ) → code ≢ 3 → taken l code place reading ≡ given code 0 (l .board .count) l
+pub taken-given : (l : Going) (code place reading : ℕ) → code ≢ 3 → taken l code place reading ≡ across (reached code 0) 0 (l .board .count) l
 unfolding taken
 taken-given l code place reading other = rw (ne-eqb code 3 other)
 
-pub given-all : (code count : ℕ) (l : Going) → given code 0 (count - 0) l ≡ given code 0 count l
-given-all code count l = ap (λ (n : ℕ). given code 0 n l) (sub-zero count)
+-- ---- place by place
 
--- the next of those that are left
-pub given-next : (code place count : ℕ) (l : Going) → place < count →
-    given code (place + 1) (count - (place + 1)) (reached code 0 place l) ≡ given code place (count - place) l
-unfolding given
-given-next code place count l h =
-    let left : count - place ≡ suc (count - (place + 1)) = omega (arith, h) in
-    sym (ap (λ (n : ℕ). given code place n l) left)
+module _ (visit : ℕ → Going → Going) where
+  pub across-all : (count : ℕ) (l : Going) → across visit 0 (count - 0) l ≡ across visit 0 count l
+  across-all count l = ap (λ (n : ℕ). across visit 0 n l) (sub-zero count)
 
-pub given-over : (code place count : ℕ) (l : Going) → count ≤ place → given code place (count - place) l ≡ l
-unfolding given
-given-over code place count l h = let none : count - place ≡ 0 = omega (arith, h) in ap (λ (n : ℕ). given code place n l) none
+  -- the next of those that are left
+  pub across-next : (place count : ℕ) (l : Going) → place < count →
+      across visit (place + 1) (count - (place + 1)) (visit place l) ≡ across visit place (count - place) l
+  unfolding across
+  across-next place count l h =
+      let left : count - place ≡ suc (count - (place + 1)) = omega (arith, h) in
+      sym (ap (λ (n : ℕ). across visit place n l) left)
+
+  pub across-over : (place count : ℕ) (l : Going) → count ≤ place → across visit place (count - place) l ≡ l
+  unfolding across
+  across-over place count l h = let none : count - place ≡ 0 = omega (arith, h) in ap (λ (n : ℕ). across visit place n l) none
+
+  last-from : (left place : ℕ) (l : Going) → across visit place (suc left) l ≡ visit (place + left) (across visit place left l)
+  unfolding across
+  last-from zero place l = let here : place + 0 ≡ place = omega arith in rw here
+  last-from (suc left) place l =
+      let same : place + 1 + left ≡ place + suc left = omega arith in
+      last-from left (place + 1) (visit place l) ∙ ap (λ (n : ℕ). visit n (across visit (place + 1) left (visit place l))) same
+
+  -- the last of them
+  pub across-last : (n : ℕ) (l : Going) → across visit 0 (suc n) l ≡ visit n (across visit 0 n l)
+  across-last n l = last-from n 0 l ∙ ap (λ (place : ℕ). visit place (across visit 0 n l)) (zero-add n)
 
 -- ---- what the tag at a place leaves, as the code has it
 
@@ -201,7 +215,7 @@ module _ (block numbers codes : List ℕ) where
   new-refused fault = rw (ne-eqb _ 0 fault)
 
   pub new-taken : answerNumber (newJudged (length block) numbers codes) ≡ 0 →
-      newLine block numbers codes ≡ accepted (made numbers codes 0 (length numbers) (begun block (emptyBoard (length numbers))))
+      newLine block numbers codes ≡ accepted (across (newAt numbers codes) 0 (length numbers) (begun block (emptyBoard (length numbers))))
   unfolding newLine
   new-taken none = rw (eq-eqb _ 0 none)
 
@@ -219,20 +233,6 @@ module _ (numbers codes : List ℕ) where
   pub fault-over : (place count : ℕ) → count ≤ place → newFault numbers codes place (count - place) ≡ Answer.Accepted
   unfolding newFault
   fault-over place count h = let none : count - place ≡ 0 = omega (arith, h) in ap (newFault numbers codes place) none
-
-  pub made-all : (count : ℕ) (l : Going) → made numbers codes 0 (count - 0) l ≡ made numbers codes 0 count l
-  made-all count l = ap (λ (n : ℕ). made numbers codes 0 n l) (sub-zero count)
-
-  pub made-next : (place count : ℕ) (l : Going) → place < count →
-      made numbers codes (place + 1) (count - (place + 1)) (newAt numbers codes place l) ≡ made numbers codes place (count - place) l
-  unfolding made
-  made-next place count l h =
-      let left : count - place ≡ suc (count - (place + 1)) = omega (arith, h) in
-      sym (ap (λ (n : ℕ). made numbers codes place n l) left)
-
-  pub made-over : (place count : ℕ) (l : Going) → count ≤ place → made numbers codes place (count - place) l ≡ l
-  unfolding made
-  made-over place count l h = let none : count - place ≡ 0 = omega (arith, h) in ap (λ (n : ℕ). made numbers codes place n l) none
 
 -- the tag that is made at a place, as the code has it; `lent` is the part of the block that was lent for it
 pub made-at : (numbers codes : List ℕ) (place : ℕ) (l : Going) (code : ℕ) → code ≡ getD codes place 0 →

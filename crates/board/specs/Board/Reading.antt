@@ -1,17 +1,13 @@
--- Reading the records of a line one by one: their numbers, and whether all so far keep to their ranges. Assumes nothing.
-use mathlib.Core.Bool.{Bool, true, false, _&&_}
+-- Reading the numbers of a line one by one. Assumes nothing.
 use mathlib.Core.List.{List}
 use mathlib.Core.Logic.{dite}
-use mathlib.Core.Path.{_≡_, refl, sym, ap, _∙_}
+use mathlib.Core.Path.{_≡_, ap, _∙_}
 use Prim.Native.Nat.{ℕ, _+_, _<_, _≤_}
 use native.Mathlib.Decide.{decLt}
-use native.Mathlib.Numerals.{add-one}
 use native.Mathlib.Omega.{arith}
 use lib.ListN.{length, getD, set, take}
 use lib.Seq.{length-take-le, getD-take, getD-set-same, getD-set-other}
-use Rattle.bits.specs.Each.{each}
 use Rattle.record.specs.declared.Tag.{Tag}
-use Rattle.record.specs.Record.{tagInRange}
 use Rattle.board.specs.declared.Board.{Board}
 use Rattle.board.specs.Board.{tagAt, numberAt, sameNumber}
 use Rattle.board.specs.Board.Numbers.{same-numbers}
@@ -28,16 +24,6 @@ pub numbers-next : (numbers : List ℕ) (number : ℕ → ℕ) (i n : ℕ) → i
 numbers-next numbers number i n h known e k lt =
     dite (decLt k i) (λ before. getD-set-other numbers i k n 0 (λ same. absurd (omega (arith, before, same))) ∙ known k before)
     (λ here. let same : k ≡ i = omega (arith, lt, here) in rw same (getD-set-same numbers i n 0 h ∙ e))
-
--- the same of a test
-pub each-next : (i : ℕ) (f : ℕ → Bool) (so next : Bool) → so ≡ each i f → next ≡ f i → (so && next) ≡ each (i + 1) f
-each-next i f so next p q = rw (add-one i, p, q) (and-comm (each i f) (f i))
-  where
-    and-comm : (a b : Bool) → (a && b) ≡ (b && a)
-    and-comm true true = refl
-    and-comm true false = refl
-    and-comm false true = refl
-    and-comm false false = refl
 
 -- two of the numbers read are the same
 pub same-read : (numbers : List ℕ) (number : ℕ → ℕ) (end : ℕ) → end ≤ length numbers → ((k : ℕ) → k < end → getD numbers k 0 ≡ number k) →

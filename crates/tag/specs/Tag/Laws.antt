@@ -1,6 +1,6 @@
 -- What every call of the tag answers and leaves: the image's length, the record's ranges, and after a refusal all that it was
 -- given. Assumes nothing.
-use mathlib.Core.Path.{_≡_, refl, _∙_}
+use mathlib.Core.Path.{_≡_, refl, sym, _∙_}
 use mathlib.Core.Bool.{Bool, true, false, not, _&&_}
 use mathlib.Core.List.{List}
 use mathlib.Core.Logic.{_≢_}
@@ -165,6 +165,17 @@ step-refused image tag code reading =
 
 -- ---- the image's length
 
+pub length-event : (image : List ℕ) (tag : Tag) (code reading : ℕ) → length (eventOf image tag code reading .image) ≡ length image
+unfolding resetTag shortTag
+length-event image tag code reading =
+    event-cases (λ o a. length (o .image) ≡ length image) image tag code reading
+    (length-slotted image tag)
+    refl
+    refl
+    (λ small. length-tick image tag reading)
+    refl
+    refl
+
 pub length-step : (image : List ℕ) (tag : Tag) (code reading : ℕ) → length (step image tag code reading .image) ≡ length image
 unfolding resetTag shortTag
 length-step image tag code reading =
@@ -250,3 +261,8 @@ new-made image number code whole good known = rw (eq-eqb (length image) 8832 who
 pub length-new : (n : ℕ) → length (newImage n) ≡ n
 unfolding newImage
 length-new n = length-set (replicate n 0) 0x0214 0x80 ∙ length-replicate n 0
+
+pub length-made : (image : List ℕ) (number code : ℕ) → length (newTag image number code .image) ≡ length image
+length-made image number code =
+    new-cases (λ o a. length (o .image) ≡ length image) image number code (λ answer refused. refl)
+    (λ whole good known. length-new 8832 ∙ sym whole)

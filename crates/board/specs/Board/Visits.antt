@@ -1,0 +1,159 @@
+-- What is done place by place leaves at each place what is done there, and the others as they were: of an event that goes to all, and of a new
+-- line. Assumes nothing.
+use mathlib.Core.Bool.{Bool, true, _&&_}
+use mathlib.Core.Path.{_≡_, refl, sym, ap, _∙_}
+use mathlib.Core.List.{List}
+use mathlib.Core.Logic.{_≢_, dite}
+use Prim.Native.Nat.{ℕ, zero, suc, _+_, _*_, _≤_, _<_}
+use native.Mathlib.Decide.{ℕ-discrete}
+use native.Mathlib.Omega.{arith}
+use lib.ListN.{length, getD, length-set}
+use lib.Seq.{getD-set-other}
+use Rattle.bits.specs.Each.{each, each-next}
+use Rattle.record.specs.declared.Tag.{Tag}
+use Rattle.record.specs.Record.{Outcome}
+use Rattle.tag.specs.Tag.{newTag, eventOf}
+use Rattle.tag.specs.Tag.Laws.{length-event, length-made}
+use Rattle.board.specs.Board.{imageAt, withImage, tagAt, withTag, Going, reached, across, newAt}
+use Rattle.board.specs.Board.Laws.{across-last}
+use Rattle.board.specs.Board.Places.{Has, length-image, length-with, image-with, image-other, tag-with, tag-other}
+use Rattle.board.specs.declared.Board.{Board}
+
+-- the image and the record at a place
+pub record Own : Type 0 where
+  pub image : List ℕ
+  pub tag : Tag
+
+abbrev pub ownAt : Going → ℕ → Own
+ownAt l place = record { image = imageAt (l .block) place; tag = tagAt (l .board) place }
+
+abbrev pub leftBy : Outcome → Own
+leftBy o = record { image = o .image; tag = o .answered .tag }
+
+-- what stays on the way: lengths, the count, and the records from a place on
+pub record Stays (from : ℕ) (before after : Going) : Type 0 where
+  pub block : length (after .block) ≡ length (before .block)
+  pub tags : length (after .board .tags) ≡ length (before .board .tags)
+  pub count : after .board .count ≡ before .board .count
+  pub past : (place : ℕ) (d : Tag) → from ≤ place → getD (after .board .tags) place d ≡ getD (before .board .tags) place d
+
+-- a visit to a place puts there what `f` makes of the image and the record
+pub record Visits (visit : ℕ → Going → Going) (f : ℕ → Own → Outcome) : Type 0 where
+  pub block : (place : ℕ) (l : Going) → visit place l .block ≡ withImage (l .block) place (f place (ownAt l place) .image)
+  pub board : (place : ℕ) (l : Going) → visit place l .board ≡ withTag (l .board) place (f place (ownAt l place) .answered .tag)
+  pub whole : (place : ℕ) (own : Own) → length (own .image) ≡ 8832 → length (f place own .image) ≡ 8832
+
+module _ {visit : ℕ → Going → Going} {f : ℕ → Own → Outcome} (v : Visits visit f) where
+  whole-at : (place : ℕ) (l : Going) → Has (l .block) place → length (f place (ownAt l place) .image) ≡ 8832
+  whole-at place l has = v .whole place (ownAt l place) (length-image (l .block) place has)
+
+  pub visit-own : (place : ℕ) (l : Going) → Has (l .block) place → place < length (l .board .tags) →
+      ownAt (visit place l) place ≡ leftBy (f place (ownAt l place))
+  visit-own place l has there =
+      rw (v .block place l, v .board place l)
+      (λ i. record {
+        image = image-with (l .block) place has (f place (ownAt l place) .image) (whole-at place l has) i;
+        tag = tag-with (l .board) place (f place (ownAt l place) .answered .tag) there i;
+      })
+
+  pub visit-other : (place other : ℕ) (l : Going) → Has (l .block) place → Has (l .block) other → other ≢ place →
+      ownAt (visit place l) other ≡ ownAt l other
+  visit-other place other l has there apart =
+      rw (v .block place l, v .board place l)
+      (λ i. record {
+        image = image-other (l .block) place other has there apart (f place (ownAt l place) .image) (whole-at place l has) i;
+        tag = tag-other (l .board) place other (f place (ownAt l place) .answered .tag) apart i;
+      })
+
+  pub visit-stays : (place : ℕ) (l : Going) → Has (l .block) place → Stays (place + 1) l (visit place l)
+  unfolding withTag
+  visit-stays place l has =
+      let tag = f place (ownAt l place) .answered .tag in
+      rw (v .block place l, v .board place l)
+      (record {
+        block = length-with (l .block) place has (f place (ownAt l place) .image) (whole-at place l has);
+        tags = length-set (l .board .tags) place tag;
+        count = refl;
+        past = λ other d past. getD-set-other (l .board .tags) place other tag d (λ same. absurd (omega (arith, past, same)));
+      })
+
+  -- the first n places, one after the other
+  pub across-stays : (n : ℕ) (l : Going) → n * 8832 ≤ length (l .block) → Stays n l (across visit 0 n l)
+  unfolding across
+  across-stays zero l room = record { block = refl; tags = refl; count = refl; past = λ place d past. refl }
+  across-stays (suc n) l room =
+      let before = across-stays n l (omega (arith, room)) in
+      let last = visit-stays n (across visit 0 n l) (omega (arith, room, before .block)) in
+      rw (across-last visit n l)
+      (record {
+        block = last .block ∙ before .block;
+        tags = last .tags ∙ before .tags;
+        count = last .count ∙ before .count;
+        past = λ place d past. last .past place d (omega (arith, past)) ∙ before .past place d (omega (arith, past));
+      })
+
+  -- a place behind them
+  pub across-other : (n place : ℕ) (l : Going) → n ≤ place → Has (l .block) place → ownAt (across visit 0 n l) place ≡ ownAt l place
+  unfolding across
+  across-other zero place l past has = refl
+  across-other (suc n) place l past has =
+      let before = across-stays n l (omega (arith, past, has)) .block in
+      rw (across-last visit n l)
+      (visit-other n place (across visit 0 n l) (omega (arith, past, has, before)) (omega (arith, has, before)) (λ same. absurd (omega (arith, past, same)))
+      ∙ across-other n place l (omega (arith, past)) has)
+
+  -- and one of them
+  pub across-own : (n place : ℕ) (l : Going) → place < n → n * 8832 ≤ length (l .block) → n ≤ length (l .board .tags) →
+      ownAt (across visit 0 n l) place ≡ leftBy (f place (ownAt l place))
+  unfolding across
+  across-own zero place l h room there = absurd (omega (arith, h))
+  across-own (suc n) place l h room there =
+      let before = across-stays n l (omega (arith, room)) in
+      let has : Has (across visit 0 n l .block) n = omega (arith, room, before .block) in
+      rw (across-last visit n l)
+      (dite (ℕ-discrete place n)
+      (λ same.
+      rw same
+      (visit-own n (across visit 0 n l) has (omega (arith, there, before .tags))
+      ∙ ap (λ (own : Own). leftBy (f n own)) (across-other n n l (omega arith) (omega (arith, room)))))
+      (λ other.
+      visit-other n place (across visit 0 n l) has (omega (arith, h, room, before .block)) other
+      ∙ across-own n place l (omega (arith, h, other)) (omega (arith, room)) (omega (arith, there))))
+
+-- ---- the two kinds
+
+pub reached-visits : (code reading : ℕ) → Visits (reached code reading) (λ place own. eventOf (own .image) (own .tag) code reading)
+unfolding reached
+reached-visits code reading =
+    record {
+      block = λ place l. refl;
+      board = λ place l. refl;
+      whole = λ place own whole. length-event (own .image) (own .tag) code reading ∙ whole;
+    }
+
+pub new-visits : (numbers codes : List ℕ) →
+    Visits (newAt numbers codes) (λ place own. newTag (own .image) (getD numbers place 0) (getD codes place 0))
+unfolding newAt
+new-visits numbers codes =
+    record {
+      block = λ place l. refl;
+      board = λ place l. refl;
+      whole = λ place own whole. length-made (own .image) (getD numbers place 0) (getD codes place 0) ∙ whole;
+    }
+
+-- ---- "the line bit is the AND of all"
+
+-- the bit of the tag at a place, as it is alone
+abbrev pub bitAt : ℕ → Going → ℕ → Bool
+bitAt code l place = eventOf (imageAt (l .block) place) (tagAt (l .board) place) code 0 .answered .line
+
+pub across-line : (code n : ℕ) (l : Going) → n * 8832 ≤ length (l .block) → l .line ≡ true →
+    across (reached code 0) 0 n l .line ≡ each n (bitAt code l)
+unfolding across reached
+across-line code zero l room free = free
+across-line code (suc n) l room free =
+    let before = across (reached code 0) 0 n l in
+    let same = across-other (reached-visits code 0) n n l (omega arith) (omega (arith, room)) in
+    ap (λ (g : Going). g .line) (across-last (reached code 0) n l)
+    ∙ each-next n (bitAt code l) _ _ (across-line code n l (omega (arith, room)) free)
+    (ap (λ (own : Own). eventOf (own .image) (own .tag) code 0 .answered .line) same)
