@@ -11,6 +11,7 @@ pub mod Calls
 pub mod Batches
 pub mod Library
 pub mod Line
+pub mod Several
 pub mod Overdrive
 pub mod Clock
 pub mod Determinacy

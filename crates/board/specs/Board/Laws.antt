@@ -134,6 +134,13 @@ module _ (block : List ℕ) (board : Board) (code place reading : ℕ) where
   unfolding lineStep
   line-taken none = rw (eq-eqb _ 0 none)
 
+  -- one that is accepted was judged so
+  pub line-judged : lineStep block board code place reading .shown .answer ≡ Answer.Accepted →
+      answerNumber (judged (length block) board code place reading) ≡ 0
+  line-judged accepts =
+      dite (ℕ-discrete (answerNumber (judged (length block) board code place reading)) 0) (λ none. none)
+      (λ fault. absurd (fault (ap (λ (o : Left). answerNumber (o .shown .answer)) (sym (line-refused fault)) ∙ ap answerNumber accepts)))
+
 pub taken-tick : (l : Going) (code place reading : ℕ) → code ≡ 3 → taken l code place reading ≡ reached 3 reading place l
 unfolding taken
 taken-tick l code place reading three = rw (eq-eqb code 3 three)
@@ -218,6 +225,11 @@ module _ (block numbers codes : List ℕ) where
       newLine block numbers codes ≡ accepted (across (newAt numbers codes) 0 (length numbers) (begun block (emptyBoard (length numbers))))
   unfolding newLine
   new-taken none = rw (eq-eqb _ 0 none)
+
+  pub new-judged : newLine block numbers codes .shown .answer ≡ Answer.Accepted → answerNumber (newJudged (length block) numbers codes) ≡ 0
+  new-judged accepts =
+      dite (ℕ-discrete (answerNumber (newJudged (length block) numbers codes)) 0) (λ none. none)
+      (λ fault. absurd (fault (ap (λ (o : Left). answerNumber (o .shown .answer)) (sym (new-refused fault)) ∙ ap answerNumber accepts)))
 
 module _ (numbers codes : List ℕ) where
   -- the faults from a place on

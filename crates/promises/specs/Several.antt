@@ -1,0 +1,309 @@
+-- Request #106, "Several tags on one line": a line is up to seven tags, each a state of its own, and what holds of one tag holds of each of
+-- them. First the words, then four statements: a tag on the line is a tag alone, which carries all others; demand 1 of the line; that a
+-- Match touches no other tag; and, in Several/Demand3.antt, demand 3. Assumes nothing.
+use mathlib.Core.Bool.{Bool, true, false, not, _&&_, _||_}
+use mathlib.Core.List.{List, [], _∷_, _++_, map, flatMap}
+use mathlib.Core.Path.{_≡_}
+use mathlib.Core.Logic.{_≢_, _⊎_}
+use Prim.Native.Nat.{ℕ, zero, suc, _*_, _^_, _≤_, _<_}
+use lib.Dec.{eqb, leb}
+use lib.ListN.{length, getD, take, drop, replicate}
+use denote.Ref.{now}
+use Rattle.answer.specs.declared.Answer.{Answer}
+use Rattle.bits.specs.Each.{each}
+use Rattle.board.specs.Board.{Left, lineStep, newLine}
+use Rattle.board.specs.declared.Board.{Board}
+use Rattle.board.specs.declared.Shown.{Shown}
+use Rattle.board.proofs.event.Reads as event-call
+use Rattle.board.proofs.new.Reads as new-call
+use Rattle.record.specs.declared.Tag.{Tag}
+use Rattle.select.specs.declared.Choosing.{Choosing}
+use Rattle.tag.specs.Tag.{newTag}
+use Rattle.promises.specs.Overdrive.{NoLong, slotsIn, Starts}
+use Rattle.promises.specs.Ranges.{isRom, isConfiguration, inRange, Fit}
+use Rattle.promises.specs.Runs as alone
+use Rattle.promises.specs.Runs.{State, Event, Kept, ticksOf}
+use Rattle.promises.specs.Sentences.Events.{numberIn, ownNumber, clearTag}
+use Rattle.promises.specs.Words.{if_then_else_, among, low, numberOf, speedOf, Chosen}
+pub mod Laws
+pub mod Demand3
+
+
+
+
+
+
+-- ---- a line
+
+-- "up to 7 tags, each with its own record and its own 8,832 bytes of one shared lent block"
+pub record Line : Type 0 where
+  pub block : List ℕ
+  pub board : Board
+
+abbrev pub countOf : Line → ℕ
+countOf l = l .board .count
+
+-- the tag at a place: "places count from 0; the tag at place i has bytes 8,832 i to 8,832 i + 8,831 of the block"
+abbrev pub tagAt : Line → ℕ → State
+tagAt l place =
+    record { image = take 8832 (drop (place * 8832) (l .block)); tag = getD (l .board .tags) place (clearTag 0 0) }
+
+-- there are seven records, as their type says; "Records from the count on .. are not looked at"
+abbrev pub Seven : Line → Type 0
+Seven l = length (l .board .tags) ≡ 7
+
+-- ---- its events
+
+-- "A slot or reset goes to all .. a tick names its tag"
+pub data LineEvent : Type 0 where
+  slot : Bool → LineEvent
+  reset : LineEvent
+  tick : (place reading : ℕ) → LineEvent
+  short : LineEvent
+
+abbrev pub codeOf : LineEvent → ℕ
+codeOf (LineEvent.slot bit) = if bit then 1 else 0
+codeOf LineEvent.reset = 2
+codeOf (LineEvent.tick place reading) = 3
+codeOf LineEvent.short = 4
+
+-- "Place and reading count with code 3 alone"
+abbrev pub placeOf : LineEvent → ℕ
+placeOf (LineEvent.slot bit) = 0
+placeOf LineEvent.reset = 0
+placeOf (LineEvent.tick place reading) = place
+placeOf LineEvent.short = 0
+
+abbrev pub readingOf : LineEvent → ℕ
+readingOf (LineEvent.slot bit) = 0
+readingOf LineEvent.reset = 0
+readingOf (LineEvent.tick place reading) = reading
+readingOf LineEvent.short = 0
+
+abbrev pub happens : Line → LineEvent → Left
+happens l e = lineStep (l .block) (l .board) (codeOf e) (placeOf e) (readingOf e)
+
+abbrev pub leaves : Left → Line
+leaves o = record { block = o .block; board = o .shown .board }
+
+unfoldable pub after : Line → LineEvent → Line
+after l e = leaves (happens l e)
+
+abbrev pub lineBit : Line → LineEvent → Bool
+lineBit l e = happens l e .shown .line
+
+abbrev pub Accepts : Line → LineEvent → Type 0
+Accepts l e = happens l e .shown .answer ≡ Answer.Accepted
+
+-- one after the other
+pub record Ran : Type 0 where
+  pub line : List Bool
+  pub end : Line
+
+unfoldable pub run : Line → List LineEvent → Ran
+run l [] = record { line = []; end = l }
+run l (e ∷ es) =
+    let rest = run (after l e) es in
+    record { line = lineBit l e ∷ rest .line; end = rest .end }
+
+unfoldable pub AllAccepted : Line → List LineEvent → Type 0
+AllAccepted l [] = Unit {0}
+AllAccepted l (e ∷ es) = Accepts l e × AllAccepted (after l e) es
+
+-- what the tag at a place hears: "every slot and reset, and its own ticks"
+abbrev pub hears : ℕ → LineEvent → List Event
+hears place (LineEvent.slot bit) = Event.slot bit ∷ []
+hears place LineEvent.reset = Event.reset ∷ []
+hears place (LineEvent.tick named reading) = if eqb named place then Event.tick reading ∷ [] else []
+hears place LineEvent.short = Event.short ∷ []
+
+abbrev pub heard : ℕ → List LineEvent → List Event
+heard place es = flatMap (hears place) es
+
+-- ---- 1. a tag on the line is a tag
+
+-- the bit that a tag alone gives to what it hears of an event, 1 if that is nothing
+abbrev pub bitOf : State → List Event → Bool
+bitOf s [] = true
+bitOf s (e ∷ es) = alone.lineBit s e
+
+-- a line of tags, each alone: "the line bit is the AND of all"
+unfoldable pub lineOf : ℕ → (ℕ → State) → List LineEvent → List Bool
+lineOf count tags [] = []
+lineOf count tags (e ∷ es) =
+    each count (λ place. bitOf (tags place) (hears place e))
+    ∷ lineOf count (λ place. alone.run (tags place) (hears place e) .state) es
+
+pub record OneTag : Type 0 where
+  -- whatever the line's records and bytes are: after events that are accepted each tag is where it would be alone
+  pub tags : (l : Line) → Seven l → (es : List LineEvent) → AllAccepted l es → (place : ℕ) → place < countOf l →
+      tagAt (run l es .end) place ≡ alone.run (tagAt l place) (heard place es) .state
+  -- and the line's bits are the AND of the tags' bits, each as alone
+  pub line : (l : Line) → Seven l → (es : List LineEvent) → AllAccepted l es → run l es .line ≡ lineOf (countOf l) (tagAt l) es
+  -- the count stays, and records from the count on "come back as given"
+  pub count : (l : Line) → Seven l → (es : List LineEvent) → AllAccepted l es → countOf (run l es .end) ≡ countOf l
+  pub past : (l : Line) → Seven l → (es : List LineEvent) → AllAccepted l es → (place : ℕ) → countOf l ≤ place →
+      tagAt (run l es .end) place .tag ≡ tagAt l place .tag
+
+-- ---- 2. demand 1
+
+-- one of these numbers stands twice
+unfoldable pub twice : List ℕ → Bool
+twice [] = false
+twice (n ∷ ns) = among ns n || twice ns
+
+-- the numbers of the first tags, the last of them first
+unfoldable pub numbersOf : Line → ℕ → List ℕ
+numbersOf l zero = []
+numbersOf l (suc n) = numberOf (tagAt l n) ∷ numbersOf l n
+
+-- "a count of 0 or above 7"
+abbrev pub isMany : ℕ → Bool
+isMany count = leb 1 count && leb count 7
+
+-- "The order is 14, 3, 13, all before any other check of a tag"; "then 6 over all the count's records, then 1, 2". 14 too for "a tick for a tag
+-- place that isn't there"; 3: "A block whose length isn't 8,832 times the count"; 13: "two tags with the same number"
+unfoldable pub lineNumber : Line → ℕ → ℕ → ℕ → ℕ
+lineNumber l code place reading =
+    if not (isMany (countOf l)) || (eqb code 3 && leb (countOf l) place) then 14
+    else if not (eqb (length (l .block)) (countOf l * 8832)) then 3
+    else if twice (numbersOf l (countOf l)) then 13
+    else if not (each (countOf l) (λ i. inRange (tagAt l i .tag))) then 6
+    else ownNumber code reading
+
+-- a new line: "14, 3, 13, then place by place 4, 5"; as many codes as numbers, else 14
+unfoldable pub firstFault : List ℕ → List ℕ → ℕ
+firstFault [] codes = 0
+firstFault (number ∷ numbers) [] = 0
+firstFault (number ∷ numbers) (code ∷ codes) =
+    if not (isRom number) then 4
+    else if not (isConfiguration code) then 5
+    else firstFault numbers codes
+
+unfoldable pub newNumber : List ℕ → List ℕ → List ℕ → ℕ
+newNumber block numbers codes =
+    if not (isMany (length numbers)) || not (eqb (length codes) (length numbers)) then 14
+    else if not (eqb (length block) (length numbers * 8832)) then 3
+    else if twice numbers then 13
+    else firstFault numbers codes
+
+-- what a call returned, and left in the block: the number is this one, and "a refusal changes no tag", with these records and this block
+pub record Defined (number : ℕ) (block : List ℕ) (board : Board) (out : Left) : Type 0 where
+  pub answer : numberIn (out .shown .answer) ≡ number
+  pub refusal : number ≢ 0 → (out .shown .line ≡ true) × (out .shown .board ≡ board) × (out .block ≡ block)
+
+abbrev pub outcome : Shown → List ℕ → Left
+outcome shown block = record { shown = shown; block = block }
+
+-- "Records past the count, and all of a refused line, are those of all zeros", and its count is 0
+abbrev pub noBoard : Board
+noBoard = record { tags = replicate 7 (clearTag 0 0); count = 0 }
+
+-- reached from a new line by events that were accepted
+pub data Reached : Line → Type 0 where
+  new : (block numbers codes : List ℕ) → newLine block numbers codes .shown .answer ≡ Answer.Accepted →
+      Reached (leaves (newLine block numbers codes))
+  event : {l : Line} (e : LineEvent) → Reached l → Accepts l e → Reached (after l e)
+
+-- a line that no event refuses by 3, 13 or 6, nor for its count: up to seven tags that are fit, each with a number of its own
+pub record FitLine (l : Line) : Type 0 where
+  pub seven : Seven l
+  pub many : isMany (countOf l) ≡ true
+  pub size : length (l .block) ≡ countOf l * 8832
+  pub apart : (i j : ℕ) → i < countOf l → j < countOf l → numberOf (tagAt l i) ≡ numberOf (tagAt l j) → i ≡ j
+  pub tags : (place : ℕ) → place < countOf l → Fit (tagAt l place)
+
+-- slots, resets, and ticks with a valid reading for a tag that is there
+abbrev pub Valid : ℕ → LineEvent → Type 0
+Valid count (LineEvent.slot bit) = Unit {0}
+Valid count LineEvent.reset = Unit {0}
+Valid count (LineEvent.tick place reading) = (place < count) × (reading ≤ 2047)
+Valid count LineEvent.short = Unit {0}
+
+-- `event-call.Post` and `new-call.Post` are the contracts as the source states them
+pub record LineDemand1 : Type 2 where
+  pub any-event : (κs : _) (block : _) (board : Board) (code place reading : ℕ) → event-call.Asked κs (block, (board, (code, (place, (reading, tt)))))
+  pub any-new : (κs : _) (block : _) (numbers : _) (codes : _) → new-call.Asked κs (block, (numbers, (codes, tt)))
+  -- an event: "the numbers and their order, for every block, line and event; a refusal changes no tag and no byte"
+  pub events : (κs : _) (block : _) (board : Board) (code place reading : ℕ) (r : Shown) (exit : _) →
+      event-call.Post κs (block, (board, (code, (place, (reading, tt))))) r exit →
+      (outcome r (now (exit .0)) ≡ lineStep (now block) board code place reading)
+      × Defined (lineNumber (record { block = now block; board = board }) code place reading) (now block) board (outcome r (now (exit .0)))
+  -- place and reading count with code 3 alone
+  pub unread : (block : List ℕ) (board : Board) (code place reading : ℕ) → code ≢ 3 →
+      lineStep block board code place reading ≡ lineStep block board code 0 0
+  -- a new line
+  pub news : (κs : _) (block : _) (numbers : _) (codes : _) (r : Shown) (exit : _) →
+      new-call.Post κs (block, (numbers, (codes, tt))) r exit →
+      (outcome r (now (exit .0)) ≡ newLine (now block) (now numbers) (now codes))
+      × Defined (newNumber (now block) (now numbers) (now codes)) (now block) noBoard (outcome r (now (exit .0)))
+  -- "Tags made one by one on their parts are the same line"
+  pub made : (block numbers codes : List ℕ) → newNumber block numbers codes ≡ 0 →
+      let l = leaves (newLine block numbers codes) in
+      (Seven l) × (countOf l ≡ length numbers) × (length (l .block) ≡ length block)
+      × ((place : ℕ) → place < length numbers →
+      tagAt l place ≡ alone.leaves (newTag (take 8832 (drop (place * 8832) block)) (getD numbers place 0) (getD codes place 0)))
+      × ((place : ℕ) → length numbers ≤ place → tagAt l place .tag ≡ clearTag 0 0)
+  -- a line reached from a new one is fit, each of its tags is reached from a new one, and it stays so
+  pub reached : {l : Line} → Reached l → FitLine l × ((place : ℕ) → place < countOf l → alone.Reached (tagAt l place))
+  pub stays-fit : {l : Line} (e : LineEvent) → FitLine l → Accepts l e → FitLine (after l e)
+  -- to a fit line the number is given by the event alone
+  pub fit : {l : Line} → FitLine l → (code place reading : ℕ) →
+      numberIn (lineStep (l .block) (l .board) code place reading .shown .answer)
+      ≡ (if eqb code 3 && leb (countOf l) place then 14 else ownNumber code reading)
+  pub valid : {l : Line} → FitLine l → (e : LineEvent) → Valid (countOf l) e → Accepts l e
+
+-- ---- 3. "Match touches no other"
+
+-- the tag is not chosen as the event comes
+abbrev pub Unselected : State → Event → Type 0
+Unselected s e = s .tag .exchange .select .choosing ≢ Choosing.Selected
+
+-- it ends "as its own ticks alone leave" it: image, counters, scratchpad, TA and E/S, number and code
+abbrev pub LeftAlone : State → List Event → State → Type 0
+LeftAlone s es end = Kept (alone.run s (ticksOf es) .state) end
+
+-- what comes between a long reset and the next: 55h or 69h, and not the whole of this number behind it, "whole or broken off"; whatever slots
+-- and short resets follow, with ticks anywhere
+pub record Elsewhere (number : ℕ) (es : List Event) : Type 0 where
+  pub none : NoLong es
+  pub byte : ℕ
+  pub match : among (0x55 ∷ 0x69 ∷ []) byte ≡ true
+  pub bits : List Bool
+  pub slots : slotsIn es ≡ low 8 byte ++ bits
+  pub other : Starts (low 64 number) bits → ⊥
+
+-- or Resume
+pub record Resumes (es : List Event) : Type 0 where
+  pub none : NoLong es
+  pub slots : Starts (low 8 0xA5) (slotsIn es)
+
+-- what follows a long reset: a first stretch, and others that a long reset begins
+unfoldable pub stretches : List LineEvent → List (List LineEvent) → List LineEvent
+stretches first [] = first
+stretches first (next ∷ rest) = first ++ (LineEvent.reset ∷ stretches next rest)
+
+unfoldable pub Each : (List LineEvent → Type 0) → List (List LineEvent) → Type 0
+Each P [] = Unit {0}
+Each P (es ∷ rest) = P es × Each P rest
+
+pub record TouchesNoOther : Type 0 where
+  -- "any run from a long reset in which j is never selected", or from any other place of a run
+  pub unselected : {l : Line} → FitLine l → (es : List LineEvent) → AllAccepted l es → (j : ℕ) → j < countOf l →
+      alone.Always Unselected (tagAt l j) (heard j es) → LeftAlone (tagAt l j) (heard j es) (tagAt (run l es .end) j)
+  -- after a long reset: a Match with another number, and then stretches begun by such a Match or by Resume
+  pub match : {l : Line} → FitLine l → (j : ℕ) → j < countOf l → let s = after l LineEvent.reset in
+      (first : List LineEvent) (rest : List (List LineEvent)) → AllAccepted s (stretches first rest) →
+      Elsewhere (numberOf (tagAt l j)) (heard j first) →
+      Each (λ es. Elsewhere (numberOf (tagAt l j)) (heard j es) ⊎ Resumes (heard j es)) rest →
+      LeftAlone (tagAt s j) (heard j (stretches first rest)) (tagAt (run s (stretches first rest) .end) j)
+  -- "A grower who .. selects his tag by Match": his number is another one to every other tag. Numbers have 64 bits, as their type says
+  pub grower : {l : Line} → FitLine l → ((place : ℕ) → place < countOf l → numberOf (tagAt l place) < 2 ^ 64) →
+      (i j : ℕ) → i < countOf l → j < countOf l → i ≢ j → (byte : ℕ) → among (0x55 ∷ 0x69 ∷ []) byte ≡ true →
+      (es : List LineEvent) → NoLong (heard j es) → Starts (low 8 byte ++ low 64 (numberOf (tagAt l i))) (slotsIn (heard j es)) →
+      Elsewhere (numberOf (tagAt l j)) (heard j es)
+  -- "Skip reaches every tag": after a long reset all of them, by CCh and by 3Ch; after a short one those at overdrive
+  pub skip : {l : Line} → FitLine l → (byte : ℕ) → among (0xCC ∷ 0x3C ∷ []) byte ≡ true → (place : ℕ) → place < countOf l →
+      Chosen (tagAt (run l (LineEvent.reset ∷ map LineEvent.slot (low 8 byte)) .end) place)
+  pub fast-skip : {l : Line} → FitLine l → (byte : ℕ) → among (0xCC ∷ 0x3C ∷ []) byte ≡ true → (place : ℕ) → place < countOf l →
+      speedOf (tagAt l place) ≡ true → Chosen (tagAt (run l (LineEvent.short ∷ map LineEvent.slot (low 8 byte)) .end) place)
