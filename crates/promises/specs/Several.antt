@@ -26,6 +26,9 @@ use Rattle.promises.specs.Runs.{State, Event, Kept, ticksOf}
 use Rattle.promises.specs.Sentences.Events.{numberIn, ownNumber, clearTag}
 use Rattle.promises.specs.Words.{if_then_else_, among, low, numberOf, speedOf, Chosen}
 pub mod Laws
+pub mod Away
+pub mod Aside
+pub mod Numbers
 pub mod Demand3
 
 
@@ -152,10 +155,10 @@ unfoldable pub twice : List ℕ → Bool
 twice [] = false
 twice (n ∷ ns) = among ns n || twice ns
 
--- the numbers of the first tags, the last of them first
-unfoldable pub numbersOf : Line → ℕ → List ℕ
-numbersOf l zero = []
-numbersOf l (suc n) = numberOf (tagAt l n) ∷ numbersOf l n
+-- the numbers of so many tags, from a place on
+unfoldable pub numbersOf : Line → ℕ → ℕ → List ℕ
+numbersOf l place zero = []
+numbersOf l place (suc left) = numberOf (tagAt l place) ∷ numbersOf l (suc place) left
 
 -- "a count of 0 or above 7"
 abbrev pub isMany : ℕ → Bool
@@ -167,7 +170,7 @@ unfoldable pub lineNumber : Line → ℕ → ℕ → ℕ → ℕ
 lineNumber l code place reading =
     if not (isMany (countOf l)) || (eqb code 3 && leb (countOf l) place) then 14
     else if not (eqb (length (l .block)) (countOf l * 8832)) then 3
-    else if twice (numbersOf l (countOf l)) then 13
+    else if twice (numbersOf l 0 (countOf l)) then 13
     else if not (each (countOf l) (λ i. inRange (tagAt l i .tag))) then 6
     else ownNumber code reading
 

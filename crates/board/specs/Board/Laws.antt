@@ -11,6 +11,7 @@ use borrow.Author.Tests.{eqb-true, leb-true, leb-false, ltb-false, eq-eqb, ne-eq
 use lib.Dec.{eqb, leb, ltb}
 use lib.ListN.{length, getD}
 use Rattle.answer.specs.Answer.{answerNumber}
+use Rattle.answer.specs.Answer.Laws.{accepted-is}
 use Rattle.answer.specs.declared.Answer.{Answer}
 use Rattle.bits.specs.Choose.{if_then_else_, either}
 use Rattle.bits.specs.Each.{each}
@@ -134,12 +135,16 @@ module _ (block : List ℕ) (board : Board) (code place reading : ℕ) where
   unfolding lineStep
   line-taken none = rw (eq-eqb _ 0 none)
 
-  -- one that is accepted was judged so
+  -- so its answer is what was judged
+  pub line-answer : lineStep block board code place reading .shown .answer ≡ judged (length block) board code place reading
+  line-answer =
+      dite (ℕ-discrete (answerNumber (judged (length block) board code place reading)) 0)
+      (λ none. ap (λ (o : Left). o .shown .answer) (line-taken none) ∙ sym (accepted-is _ none))
+      (λ fault. ap (λ (o : Left). o .shown .answer) (line-refused fault))
+
   pub line-judged : lineStep block board code place reading .shown .answer ≡ Answer.Accepted →
       answerNumber (judged (length block) board code place reading) ≡ 0
-  line-judged accepts =
-      dite (ℕ-discrete (answerNumber (judged (length block) board code place reading)) 0) (λ none. none)
-      (λ fault. absurd (fault (ap (λ (o : Left). answerNumber (o .shown .answer)) (sym (line-refused fault)) ∙ ap answerNumber accepts)))
+  line-judged accepts = ap answerNumber (sym line-answer ∙ accepts)
 
 pub taken-tick : (l : Going) (code place reading : ℕ) → code ≡ 3 → taken l code place reading ≡ reached 3 reading place l
 unfolding taken
@@ -226,10 +231,11 @@ module _ (block numbers codes : List ℕ) where
   unfolding newLine
   new-taken none = rw (eq-eqb _ 0 none)
 
-  pub new-judged : newLine block numbers codes .shown .answer ≡ Answer.Accepted → answerNumber (newJudged (length block) numbers codes) ≡ 0
-  new-judged accepts =
-      dite (ℕ-discrete (answerNumber (newJudged (length block) numbers codes)) 0) (λ none. none)
-      (λ fault. absurd (fault (ap (λ (o : Left). answerNumber (o .shown .answer)) (sym (new-refused fault)) ∙ ap answerNumber accepts)))
+  pub new-answer : newLine block numbers codes .shown .answer ≡ newJudged (length block) numbers codes
+  new-answer =
+      dite (ℕ-discrete (answerNumber (newJudged (length block) numbers codes)) 0)
+      (λ none. ap (λ (o : Left). o .shown .answer) (new-taken none) ∙ sym (accepted-is _ none))
+      (λ fault. ap (λ (o : Left). o .shown .answer) (new-refused fault))
 
 module _ (numbers codes : List ℕ) where
   -- the faults from a place on

@@ -75,7 +75,7 @@ fast-exchange x overdrive =
     same : speedIn mode ≡ true → mode ≡ modeOf (markIn (standard mode)) true
     same fast = sym (mode-of mode) ∙ ap (modeOf (markIn mode)) fast ∙ ap (λ (mark : Bool). modeOf mark true) (sym (mark-of (markIn mode) false))
 
-slow : {s : State} → Sound s → speedOf s ≡ false → (lineBit s Event.short ≡ true) × (after s Event.short ≡ s)
+pub slow : {s : State} → Sound s → speedOf s ≡ false → (lineBit s Event.short ≡ true) × (after s Event.short ≡ s)
 unfolding after shortTag speedIn
 slow {s} sound standard = (
   line-event s Event.short (short-happens sound) ∙ ap not standard,

@@ -67,7 +67,7 @@ event-number image tag code reading =
     (numbered (not (inRange tag)) Answer.RecordRange (eventAnswer code reading) refl (own-number code reading)))
 
 -- a number that 4 lets pass is one that the record's ranges do
-rom-is : (number : ℕ) → isRom number ≡ goodNumber number
+pub rom-is : (number : ℕ) → isRom number ≡ goodNumber number
 unfolding goodNumber
 rom-is number = rw (crc8-is number)
 
