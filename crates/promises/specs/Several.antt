@@ -29,6 +29,7 @@ pub mod Laws
 pub mod Away
 pub mod Aside
 pub mod Numbers
+pub mod Proof
 pub mod Demand3
 
 

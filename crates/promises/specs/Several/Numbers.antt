@@ -87,7 +87,7 @@ twice-where (n ∷ ns) = by (among ns n) refl (twice-where ns)
           same = s .same;
         }
 
-twice-not : (ns : List ℕ) → twice ns ≡ false → (i j : ℕ) → i < length ns → j < length ns → getD ns i 0 ≡ getD ns j 0 → i ≡ j
+pub twice-not : (ns : List ℕ) → twice ns ≡ false → (i j : ℕ) → i < length ns → j < length ns → getD ns i 0 ≡ getD ns j 0 → i ≡ j
 unfolding twice
 twice-not [] e i j hi hj same = absurd (omega (arith, hi))
 twice-not (n ∷ ns) e zero zero hi hj same = refl
@@ -131,6 +131,12 @@ same-is l count =
       ap (λ (n : ℕ). numberOf (tagAt l n)) same ∙ sym (numbers-at l 0 count i h))
     ∙ ap (λ (n : ℕ). sameNumber n (λ i. getD (numbersOf l 0 count) i 0)) (sym (length-numbers l 0 count))
     ∙ sym (twice-is (numbersOf l 0 count))
+
+-- no two are the same
+pub twice-none : (l : Line) (count : ℕ) → ((i j : ℕ) → i < count → j < count → numberOf (tagAt l i) ≡ numberOf (tagAt l j) → i ≡ j) →
+    twice (numbersOf l 0 count) ≡ false
+unfolding board.numberAt board.tagAt modeOf
+twice-none l count apart = sym (same-is l count) ∙ same-none count (board.numberAt (l .board)) apart
 
 ranges-are : (l : Line) (count : ℕ) → each count (λ i. tagInRange (board.tagAt (l .board) i)) ≡ each count (λ i. inRange (tagAt l i .tag))
 unfolding board.tagAt modeOf
