@@ -280,3 +280,153 @@ line-demand1 =
       fit = fit-number;
       valid = fit-valid;
     }
+
+-- ---- events that are accepted
+
+pub AllValid : ℕ → List LineEvent → Type 0
+AllValid count [] = Unit {0}
+AllValid count (e ∷ es) = Valid count e × AllValid count es
+
+pub valid-accepted : {l : Line} → FitLine l → (es : List LineEvent) → AllValid (countOf l) es → AllAccepted l es
+unfolding AllAccepted AllValid
+valid-accepted fit [] valid = tt
+valid-accepted {l} fit (e ∷ es) valid =
+    let ok = fit-valid fit e (valid .0) in
+    (ok,
+    valid-accepted (fit-after e fit ok) es (subst (λ (n : ℕ). AllValid n es) (sym (event-remains l e ok .count)) (valid .1)))
+
+slots-valid : (count : ℕ) (bits : List Bool) → AllValid count (map LineEvent.slot bits)
+unfolding AllValid
+slots-valid count [] = tt
+slots-valid count (bit ∷ bits) = (tt, slots-valid count bits)
+
+-- ---- a tag that is not chosen
+
+aside : {l : Line} → FitLine l → (es : List LineEvent) → AllAccepted l es → (j : ℕ) → j < countOf l →
+    Always Unselected (tagAt l j) (heard j es) → LeftAlone (tagAt l j) (heard j es) (tagAt (run l es .end) j)
+aside {l} fit es ok j h never =
+    subst (LeftAlone (tagAt l j) (heard j es)) (sym (run-tag l (fit .seven) es ok j h)) (left-aside (fit-sound (fit .tags j h)) (heard j es) never)
+
+heard-append : (j : ℕ) (es fs : List LineEvent) → heard j (es ++ fs) ≡ heard j es ++ heard j fs
+unfolding flatMap
+heard-append j [] fs = refl
+heard-append j (e ∷ es) fs = ap (λ (rest : List Event). hears j e ++ rest) (heard-append j es fs) ∙ sym (append-assoc (hears j e) (heard j es) (heard j fs))
+
+-- a stretch after the first is begun by a Match with another number, or by Resume
+abbrev Begun : ℕ → ℕ → List LineEvent → Type 0
+Begun number j es = Elsewhere number (heard j es) ⊎ Resumes (heard j es)
+
+never-chosen : (number j : ℕ) {s : State} → Listens s → numberOf s ≡ number → (first : List LineEvent) (rest : List (List LineEvent)) →
+    Opens number (s .tag .exchange .select .mode) (heard j first) → Each (Begun number j) rest → Always Unselected s (heard j (stretches first rest))
+unfolding stretches Each Always flatMap
+never-chosen number j listens own first [] opens each = stretch-aside listens (heard j first) (rw own opens) .0
+never-chosen number j {s} listens own first (next ∷ rest) opens each =
+    let ran = stretch-aside listens (heard j first) (rw own opens) in
+    let end = alone.run s (heard j first) .state in
+    let sound = sound-run (heard j first) (listens .sound) in
+    let again = reset-listens sound in
+    let plain = reset-plain sound (ran .2) in
+    let same = number-after Event.reset sound ∙ number-run (heard j first) (listens .sound) ∙ own in
+    let opened : Opens number (alone.after end Event.reset .tag .exchange .select .mode) (heard j next) =
+    ⊎-elim (λ e. inl e) (λ r. inr (r, plain)) (each .0) in
+    subst (Always Unselected s) (sym (heard-append j first (LineEvent.reset ∷ stretches next rest)))
+    (always-append Unselected s (heard j first) (Event.reset ∷ heard j (stretches next rest)) (ran .0)
+    (ran .1, never-chosen number j again same next rest opened (each .1)))
+
+-- the tag after a long reset of the line
+after-reset : {l : Line} → FitLine l → (j : ℕ) → j < countOf l → tagAt (after l LineEvent.reset) j ≡ alone.after (tagAt l j) Event.reset
+unfolding alone.run
+after-reset {l} fit j h = event-tag l (fit .seven) LineEvent.reset (fit-valid fit LineEvent.reset tt) j h
+
+touched-not : {l : Line} → FitLine l → (j : ℕ) → j < countOf l → let s = after l LineEvent.reset in
+    (first : List LineEvent) (rest : List (List LineEvent)) → AllAccepted s (stretches first rest) →
+    Elsewhere (numberOf (tagAt l j)) (heard j first) → Each (Begun (numberOf (tagAt l j)) j) rest →
+    LeftAlone (tagAt s j) (heard j (stretches first rest)) (tagAt (run s (stretches first rest) .end) j)
+touched-not {l} fit j h first rest ok elsewhere each =
+    let reset = fit-valid fit LineEvent.reset tt in
+    let here : j < countOf (after l LineEvent.reset) = subst (λ (n : ℕ). j < n) (sym (event-remains l LineEvent.reset reset .count)) h in
+    let sound = fit-sound (fit .tags j h) in
+    let same = after-reset fit j h in
+    aside (fit-after LineEvent.reset fit reset) (stretches first rest) ok j here
+    (subst (λ (u : State). Always Unselected u (heard j (stretches first rest))) (sym same)
+    (never-chosen (numberOf (tagAt l j)) j (reset-listens sound) (number-after Event.reset sound) first rest (inl elsewhere) each))
+
+-- ---- a grower's Match
+
+first-same : (n : ℕ) (a b p q : List Bool) → length a ≡ n → length b ≡ n → a ++ p ≡ b ++ q → a ≡ b
+first-same n a b p q la lb e = sym (take-at a p n la) ∙ ap (take n) e ∙ take-at b q n lb
+
+low-own : (m n : ℕ) → m < 2 ^ 64 → n < 2 ^ 64 → low 64 m ≡ low 64 n → m ≡ n
+low-own m n hm hn e =
+    sym (heard-whole 64 {r = 0} (omega arith) hm) ∙ ap (shiftAll 64 0) (sym (low-is 64 m) ∙ e ∙ low-is 64 n) ∙ heard-whole 64 {r = 0} (omega arith) hn
+
+grower : {l : Line} → FitLine l → ((place : ℕ) → place < countOf l → numberOf (tagAt l place) < 2 ^ 64) →
+    (i j : ℕ) → i < countOf l → j < countOf l → i ≢ j → (byte : ℕ) → among (0x55 ∷ 0x69 ∷ []) byte ≡ true →
+    (es : List LineEvent) → NoLong (heard j es) → Starts (low 8 byte ++ low 64 (numberOf (tagAt l i))) (slotsIn (heard j es)) →
+    Elsewhere (numberOf (tagAt l j)) (heard j es)
+grower {l} fit small i j hi hj apart byte match es none starts =
+    let ni = numberOf (tagAt l i) in
+    let nj = numberOf (tagAt l j) in
+    let long : (n : ℕ) → length (low 64 n) ≡ 64 = λ n. ap length (low-is 64 n) ∙ length-bits 64 n in
+    record {
+      none = none;
+      byte = byte;
+      match = match;
+      bits = low 64 ni ++ starts .0;
+      slots = starts .1 ∙ append-assoc (low 8 byte) (low 64 ni) (starts .0);
+      other = λ own. apart (fit .apart i j hi hj
+          (low-own ni nj (small i hi) (small j hj) (first-same 64 (low 64 ni) (low 64 nj) (starts .0) (own .0) (long ni) (long nj) (own .1))));
+    }
+
+-- ---- Skip
+
+heard-slots : (place : ℕ) (bits : List Bool) → heard place (map LineEvent.slot bits) ≡ map Event.slot bits
+unfolding flatMap
+heard-slots place [] = refl
+heard-slots place (bit ∷ bits) = ap (_∷_ (Event.slot bit)) (heard-slots place bits)
+
+two-skips : (P : ℕ → Type 0) → P 0xCC → P 0x3C → (byte : ℕ) → among (0xCC ∷ 0x3C ∷ []) byte ≡ true → P byte
+unfolding among
+two-skips P p q byte = by (eqb byte 0xCC) (eqb byte 0x3C) refl refl
+  where
+    by : (a b : Bool) → eqb byte 0xCC ≡ a → eqb byte 0x3C ≡ b → (a || (b || false)) ≡ true → P byte
+    by true b e f t = rw (eqb-true byte 0xCC e) p
+    by false true e f t = rw (eqb-true byte 0x3C f) q
+    by false false e f t = absurd (false≢true t)
+
+skip-alone : {s : State} → Fit s → (byte : ℕ) → among (0xCC ∷ 0x3C ∷ []) byte ≡ true →
+    Chosen (alone.run s (Event.reset ∷ map Event.slot (low 8 byte)) .state)
+skip-alone {s} fit =
+    two-skips (λ byte. Chosen (alone.run s (Event.reset ∷ map Event.slot (low 8 byte)) .state))
+    (rw (append-nil (low 8 0xCC)) at (choosing .skip fit .1)) (rw (append-nil (low 8 0x3C)) at (choosing .fast-skip fit .1))
+
+no-shorts : (bits : List Bool) → NoShort (map Event.slot bits)
+unfolding NoShort
+no-shorts [] = tt
+no-shorts (bit ∷ bits) = no-shorts bits
+
+-- a tag that differs in the speed alone is chosen too
+chosen-but : (s t : State) → ButSpeed s t → Chosen s → Chosen t
+chosen-but s t but c = rw but (record { chosen = c .chosen; bus = c .bus })
+
+skip-line : {l : Line} → FitLine l → (first : LineEvent) → Valid (countOf l) first → (bits : List Bool) → (place : ℕ) → place < countOf l →
+    tagAt (run l (first ∷ map LineEvent.slot bits) .end) place ≡ alone.run (tagAt l place) (hears place first ++ map Event.slot bits) .state
+unfolding flatMap AllValid
+skip-line {l} fit first valid bits place h =
+    let es = first ∷ map LineEvent.slot bits in
+    run-tag l (fit .seven) es (valid-accepted fit es (valid, slots-valid (countOf l) bits)) place h
+    ∙ ap (λ (rest : List Event). alone.run (tagAt l place) (hears place first ++ rest) .state) (heard-slots place bits)
+
+pub touches-no-other : TouchesNoOther
+touches-no-other =
+    record {
+      unselected = aside;
+      match = touched-not;
+      grower = grower;
+      skip = λ {l} fit byte known place h.
+          rw (skip-line fit LineEvent.reset tt (low 8 byte) place h) (skip-alone (fit .tags place h) byte known);
+      fast-skip = λ {l} fit byte known place h speed.
+          rw (skip-line fit LineEvent.short tt (low 8 byte) place h)
+          (chosen-but _ _ (overdrive .begun (fit .tags place h) speed (map Event.slot (low 8 byte)) (no-shorts (low 8 byte)) .1)
+          (skip-alone (fit .tags place h) byte known));
+    }
