@@ -1,6 +1,6 @@
 -- Demand 3 for the line (request #106): "from just after a long reset: every tag has password checking on, all tags' numbers, scratchpads,
 -- address registers, Resume marks and silence are equal in both runs, no field reaches a selected tag carrying one of that tag's passwords of
--- either run, and alarm flags agree tag by tag at each Conditional Search". `lineDemand3` in Demand3/Proof.antt proves it, by demand 3 of each
+-- either run, and alarm flags agree tag by tag at each Conditional Search". `line-demand3` in Demand3/Proof.antt proves it, by demand 3 of each
 -- tag. Assumes nothing.
 use mathlib.Core.List.{List, [], _∷_}
 use mathlib.Core.Path.{_≡_}
@@ -10,6 +10,7 @@ use Rattle.promises.specs.Demand3.{JustReset, NoneCarried, AlarmsAgree, 
 use Rattle.promises.specs.Runs as alone
 use Rattle.promises.specs.Several.{Line, LineEvent, FitLine, countOf, tagAt, run, heard}
 use Rattle.promises.specs.Words.{byteAt, numberOf, heldOf, markOf}
+pub mod Proof
 
 -- "same slots, resets of both kinds, and ticks at the same places for the same tag", which is one of them, with valid readings that may differ
 pub data Alike (count : ℕ) : LineEvent → LineEvent → Type 0 where

@@ -283,7 +283,7 @@ line-demand1 =
 
 -- ---- events that are accepted
 
-pub AllValid : ℕ → List LineEvent → Type 0
+unfoldable pub AllValid : ℕ → List LineEvent → Type 0
 AllValid count [] = Unit {0}
 AllValid count (e ∷ es) = Valid count e × AllValid count es
 
