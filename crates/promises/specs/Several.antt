@@ -31,6 +31,7 @@ pub mod Aside
 pub mod Numbers
 pub mod Proof
 pub mod Demand3
+pub mod Met
 
 
 

@@ -35,7 +35,7 @@ use Rattle.promises.specs.Runs.{State, Event, after, readingOf, run, tic
 abbrev pub wrong : ℕ
 wrong = 0x0807060504030201
 
-abbrev field : List ℕ
+abbrev pub field : List ℕ
 field = 0x01 ∷ 0x02 ∷ 0x03 ∷ 0x04 ∷ 0x05 ∷ 0x06 ∷ 0x07 ∷ 0x08 ∷ []
 
 -- a reset, Skip and these bytes
@@ -115,16 +115,16 @@ harmless-front w x (e ∷ es) F h =
     and-eq-true-iff (asksHarmless w x e) (harmlessAll w (denied x e) es) .1 (both .0, rest)
 
 -- what `EndsField` speaks of, as the slot with this bit comes; and what `Forces` does
-abbrev Sight : Type 0
+abbrev pub Sight : Type 0
 Sight = Bool × Stage × ℕ × ℕ
 
-abbrev fieldSeen : Exchange → Bool → Sight
+abbrev pub fieldSeen : Exchange → Bool → Sight
 fieldSeen x bit = (select.isSelected (x .select), x .bus .stage, x .bus .at, shiftIn 64 (x .bus .field) bit)
 
 abbrev byteSeen : Exchange → Bool → Sight
 byteSeen x bit = (select.isSelected (x .select), x .bus .stage, x .bus .at, shiftIn 8 (x .bus .byte) bit)
 
-ends-seen : (x : Exchange) (bit : Bool) (g : Guarded) {carried : ℕ} → fieldSeen x bit ≡ (true, Stage.Gathers g, 63, carried) →
+pub ends-seen : (x : Exchange) (bit : Bool) (g : Guarded) {carried : ℕ} → fieldSeen x bit ≡ (true, Stage.Gathers g, 63, carried) →
     (x .bus .stage ≡ Stage.Gathers g) × EndsField x bit carried
 unfolding shiftIn
 ends-seen x bit g e =

@@ -64,22 +64,28 @@ pub number-good : goodNumber number ≡ true
 unfolding goodNumber goodCrc taps crcBit crcBits mask8 crc8Of bitOf bitsOf xor
 number-good = refl
 
--- its image, and the tag that is made over any image lent, as over this one
+-- its image, and the tag that is made over any image lent, as over this one; with another number too
 abbrev pub fresh : List ℕ
 fresh = newImage 8832
 
-abbrev pub made : State
-made = leaves (newTag fresh number 0x40)
+abbrev pub madeWith : ℕ → State
+madeWith rom = leaves (newTag fresh rom 0x40)
 
-pub made-owned : Owned number fresh made
+pub with-owned : (rom : ℕ) → goodNumber rom ≡ true → Owned rom fresh (madeWith rom)
 unfolding goodCode
-made-owned =
-    let new = new-made fresh number 0x40 (length-new 8832) number-good refl in
+with-owned rom good =
+    let new = new-made fresh rom 0x40 (length-new 8832) good refl in
     record {
-      reached = Reached.new fresh number 0x40 (ap (λ (o : Outcome). o .answered .answer) new);
+      reached = Reached.new fresh rom 0x40 (ap (λ (o : Outcome). o .answered .answer) new);
       numbered = ap (λ (o : Outcome). o .answered .tag .exchange .number) new;
       holds = ap (λ (o : Outcome). o .image) new;
     }
+
+abbrev pub made : State
+made = madeWith number
+
+pub made-owned : Owned number fresh made
+made-owned = with-owned number number-good
 
 pub fresh-at : (k : ℕ) → k ≢ 0x0214 → getD fresh k 0 ≡ 0
 unfolding newImage
