@@ -4,6 +4,7 @@ use board::Board;
 use libc::STDIN_FILENO;
 ghost use mathlib.Core.Path.{_≡_};
 ghost use Prim.Native.Nat.{min};
+ghost use lib.ListN.{length};
 ghost use lib.Seq.{sets};
 ghost use Rattle.shed.specs.Shed.{sessionOf, playedIn};
 
@@ -18,15 +19,36 @@ struct Played {
 }
 
 fn main() {
+    // A missing byte stays 00h.
     let mut count = [0u8; 1];
+    io::read_full(STDIN_FILENO, &mut count);
+    // Of more than seven tags eight are read: such a line is refused for its count alone.
     let mut numbers = [0u64; 8];
     let mut codes = [0u8; 8];
-    // A missing byte stays 00h.
-    io::read_full(STDIN_FILENO, &mut count);
     let heads = read_heads(count[0], &mut numbers, &mut codes);
     let mut block = [0u8; 7 * 8832];
     let lent = if heads < 8 { heads * 8832 } else { 7 * 8832 };
-    let made = board::new(&mut block[..lent], &numbers[..heads], &codes[..heads]);
+    begin(&mut block[..lent], &numbers[..heads], &codes[..heads]);
+}
+
+// Reads the heads of so many tags, as far as there are places for their numbers, and returns how many it has read.
+fn read_heads(count: u8, numbers: &mut [u64], codes: &mut [u8]) -> usize
+    ensures { λ r. ⌜ r ≡ min count (length (now (numbers .entry))) ⌝ }
+{
+    let mut i = 0;
+    while i < numbers.len() && i < count as usize {
+        let mut head = [0u8; 9];
+        io::read_full(STDIN_FILENO, &mut head);
+        numbers[i] = image::word(&head, 0, 8);
+        image::poke(codes, i, head[8]);
+        i += 1;
+    }
+    i
+}
+
+// A new line, and the events that come for it.
+fn begin(block: &mut [u8], numbers: &[u64], codes: &[u8]) {
+    let made = board::new(block, numbers, codes);
     let answer = made.answer;
     if console::refused(answer) {
         return;
@@ -34,23 +56,7 @@ fn main() {
     let mut input = [0u8; 65536];
     let mut out = [0u8; 65536];
     let board = made.board;
-    play(&mut block[..lent], board, &mut input, &mut out);
-}
-
-// Reads the heads of so many tags, and returns how many they are. Of more than seven it reads eight: such a line is refused for its
-// count alone, whatever the count and the heads.
-fn read_heads(count: u8, numbers: &mut [u64; 8], codes: &mut [u8; 8]) -> usize
-    ensures { λ r. ⌜ r ≡ min count 8 ⌝ }
-{
-    let mut i = 0;
-    while i < 8 && i < count as usize {
-        let mut head = [0u8; 9];
-        io::read_full(STDIN_FILENO, &mut head);
-        numbers[i] = image::word(&head, 0, 8);
-        codes[i] = head[8];
-        i += 1;
-    }
-    i
+    play(block, board, &mut input, &mut out);
 }
 
 // Turn by turn, as `play` does.
