@@ -48,7 +48,11 @@ pub fn new(block: &mut [u8], numbers: &[u64], codes: &[u8]) -> Shown
     let mut i = 0;
     while i < numbers.len() {
         let from = i * IMAGE;
-        let made = tag::new(&mut block[from..from + IMAGE], numbers[i], image::peek(codes, i));
+        let made = tag::new(
+            &mut block[from..from + IMAGE],
+            numbers[i],
+            image::peek(codes, i),
+        );
         let tag = made.tag;
         tags[i] = tag;
         i += 1;
@@ -154,7 +158,15 @@ fn stands_in(numbers: &[u64], number: u64) -> bool
 }
 
 // The answer to an event, once it is known whether two numbers are the same and all records keep to their ranges.
-fn judge(count: u8, size: usize, same: bool, good: bool, code: u8, place: u8, reading: u16) -> Answer
+fn judge(
+    count: u8,
+    size: usize,
+    same: bool,
+    good: bool,
+    code: u8,
+    place: u8,
+    reading: u16,
+) -> Answer
     ensures { λ r. ⌜ r ≡ judgedBy count size same good code place reading ⌝ }
 {
     if !is_count(count as usize) {

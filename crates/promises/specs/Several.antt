@@ -33,11 +33,6 @@ pub mod Proof
 pub mod Demand3
 pub mod Met
 
-
-
-
-
-
 -- ---- a line
 
 -- "up to 7 tags, each with its own record and its own 8,832 bytes of one shared lent block"

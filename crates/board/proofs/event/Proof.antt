@@ -70,7 +70,7 @@ loop-again c =
       length-set (l .numbers) (l .i) _ ∙ l .inv .3,
       numbers-next (l .numbers) (numberAt (a .board)) (l .i) _ (omega (arith, there, l .inv .3)) (l .inv .4) (ap (λ (t : Tag). t .exchange .number) own),
       c .both .ensures
-      ∙ rw (add-one (l .i)) (each-next (l .i) _ (l .good) _ (l .inv .5) (c .before .in-range .ensures ∙ ap tagInRange own)),
+          ∙ rw (add-one (l .i)) (each-next (l .i) _ (l .good) _ (l .inv .5) (c .before .in-range .ensures ∙ ap tagInRange own)),
     )
 
 -- ---- what is judged
@@ -86,15 +86,15 @@ judge-is c =
     c .judge .ensures
     ∙ judged-by (length (a .block .now)) (a .board) _ _ (a .code) (a .place) (a .reading)
     (λ few.
-      let end : placesOf (a .board .count) ≡ a .board .count = places-counted (a .board .count) few in
-      let all : l .i ≡ a .board .count = omega (arith, left, l .inv .0, l .inv .1, end) in
-      let read : (k : ℕ) → k < c .before .before .before .before .before .places .result → getD (l .numbers) k 0 ≡ numberAt (a .board) k =
-      λ k h. l .inv .4 k (omega (arith, h, left)) in (
-        c .before .same-number .ensures
-        ∙ same-read (l .numbers) (numberAt (a .board)) _ (omega (arith, l .inv .1, l .inv .3, places-some (a .board .count))) read
-        ∙ ap (λ (n : ℕ). sameNumber n (numberAt (a .board))) (l .inv .1 ∙ end),
-        l .inv .5 ∙ ap (λ (n : ℕ). each n (λ i. tagInRange (tagAt (a .board) i))) all,
-      ))
+    let end : placesOf (a .board .count) ≡ a .board .count = places-counted (a .board .count) few in
+    let all : l .i ≡ a .board .count = omega (arith, left, l .inv .0, l .inv .1, end) in
+    let read : (k : ℕ) → k < c .before .before .before .before .before .places .result → getD (l .numbers) k 0 ≡ numberAt (a .board) k =
+    λ k h. l .inv .4 k (omega (arith, h, left)) in (
+      c .before .same-number .ensures
+          ∙ same-read (l .numbers) (numberAt (a .board)) _ (omega (arith, l .inv .1, l .inv .3, places-some (a .board .count))) read
+          ∙ ap (λ (n : ℕ). sameNumber n (numberAt (a .board))) (l .inv .1 ∙ end),
+      l .inv .5 ∙ ap (λ (n : ℕ). each n (λ i. tagInRange (tagAt (a .board) i))) all,
+    ))
 
 -- an event that is accepted
 accepts : (c : tie.Then1 Inv-loop μ-loop Inv-loop2 μ-loop2) →
@@ -148,7 +148,7 @@ returns c =
         answer = zero-is (then .before) i;
         line = sym high i;
       })
-      ∙ sym (ap (λ (o : Left). o .shown) e),
+          ∙ sym (ap (λ (o : Left). o .shown) e),
       put-is (a .block .now) (a .place) (tick .last .0) ∙ sym (ap (λ (o : Left). o .block) e),
     )
 
@@ -179,13 +179,13 @@ loop2-again c =
       ap length put ∙ length-with (l .block) (l .at) has (hear .last .0) whole ∙ l .inv .1,
       length-set (l .tags) (l .at) (hear .result .tag) ∙ l .inv .2,
       ap (across (reached (a .code) 0) (l .at + 1) (a .board .count - (l .at + 1)))
-      ((λ i. record {
-        block = put i;
-        board = record { tags = set (l .tags) (l .at) (hear .result .tag); count = a .board .count };
-        line = c .both2 .ensures i;
-      })
-      ∙ sym next)
-      ∙ across-next (reached (a .code) 0) (l .at) (a .board .count) (going (l .block) (l .tags) (a .board .count) (l .line)) test ∙ l .inv .3,
+          ((λ i. record {
+            block = put i;
+            board = record { tags = set (l .tags) (l .at) (hear .result .tag); count = a .board .count };
+            line = c .both2 .ensures i;
+          })
+          ∙ sym next)
+          ∙ across-next (reached (a .code) 0) (l .at) (a .board .count) (going (l .block) (l .tags) (a .board .count) (l .line)) test ∙ l .inv .3,
     )
 
 returns-2 : tie.Need-returns-2 Inv-loop μ-loop Inv-loop2 μ-loop2

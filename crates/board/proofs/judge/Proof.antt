@@ -56,8 +56,14 @@ returns-7 c =
     let sixth = c .before .before in
     let third = sixth .before .before .before in
     simp (
-      counted (third .before .before .before), named (third .before), sized third, sixth .before .before .if4 .left, sixth .before .if5 .left,
-      le-ltb _ _ (sixth .if6 .left), ← c .before .is-high .ensures, c .if7 .taken,
+      counted (third .before .before .before),
+      named (third .before),
+      sized third,
+      sixth .before .before .if4 .left,
+      sixth .before .if5 .left,
+      le-ltb _ _ (sixth .if6 .left),
+      ← c .before .is-high .ensures,
+      c .if7 .taken,
     )
 
 returns-8 : tie.Need-returns-8
@@ -66,8 +72,14 @@ returns-8 c =
     let sixth = c .before .before in
     let third = sixth .before .before .before in
     simp (
-      counted (third .before .before .before), named (third .before), sized third, sixth .before .before .if4 .left, sixth .before .if5 .left,
-      le-ltb _ _ (sixth .if6 .left), ← c .before .is-high .ensures, c .if7 .left,
+      counted (third .before .before .before),
+      named (third .before),
+      sized third,
+      sixth .before .before .if4 .left,
+      sixth .before .if5 .left,
+      le-ltb _ _ (sixth .if6 .left),
+      ← c .before .is-high .ensures,
+      c .if7 .left,
     )
 
 pub judge-spec : {M : Type 1} → statement M

@@ -40,7 +40,7 @@ returns c =
     let j = c .before .before .judge-new .ensures in
     let e = new-refused (a .block .now) (a .numbers .now) (a .codes .now) (λ zero. c .if1 .taken (c .before .number .ensures ∙ ap answerNumber j ∙ zero)) in (
       (λ i. record { board = of (replicate 7 (c .before .before .before .fresh .ensures i)) 0; answer = j i; line = true })
-      ∙ sym (ap (λ (o : Left). o .shown) e),
+          ∙ sym (ap (λ (o : Left). o .shown) e),
       sym (ap (λ (o : Left). o .block) e),
     )
 
@@ -57,8 +57,8 @@ loop-holds c =
       refl,
       refl,
       across-all (newAt (a .numbers .now) (a .codes .now)) (length (a .numbers .now)) _
-      ∙ ap (λ (t : Tag). across (newAt (a .numbers .now) (a .codes .now)) 0 (length (a .numbers .now)) (going (a .block .now) (replicate 7 t) (length (a .numbers .now))))
-      (c .before .before .before .fresh .ensures),
+          ∙ ap (λ (t : Tag). across (newAt (a .numbers .now) (a .codes .now)) 0 (length (a .numbers .now)) (going (a .block .now) (replicate 7 t) (length (a .numbers .now))))
+          (c .before .before .before .fresh .ensures),
     )
 
 -- a place is there
@@ -87,8 +87,8 @@ loop-again c =
       ap length put ∙ length-with (l .block) (l .i) has (new .last .0) whole ∙ l .inv .1,
       length-set (l .tags) (l .i) (new .result .tag) ∙ l .inv .2,
       ap (across (newAt (a .numbers .now) (a .codes .now)) (l .i + 1) (count - (l .i + 1)))
-      ((λ i. going (put i) (set (l .tags) (l .i) (new .result .tag)) count) ∙ sym next)
-      ∙ across-next (newAt (a .numbers .now) (a .codes .now)) (l .i) count (going (l .block) (l .tags) count) test ∙ l .inv .3,
+          ((λ i. going (put i) (set (l .tags) (l .i) (new .result .tag)) count) ∙ sym next)
+          ∙ across-next (newAt (a .numbers .now) (a .codes .now)) (l .i) count (going (l .block) (l .tags) count) test ∙ l .inv .3,
     )
 
 returns-2 : tie.Need-returns-2 Inv-loop μ-loop

@@ -43,9 +43,9 @@ loop-again c =
     let here : (k : ℕ) → k < l .i + 1 → (k < l .i → ⊥) → k ≡ l .i = λ k h ge. omega (arith, h, ge) in (
       omega (arith, taken),
       λ k m hk hm e.
-        dite (decLt k (l .i))
-        (λ lk. dite (decLt m (l .i)) (λ lm. l .inv .1 k m lk lm e) (λ gm. absurd (no k lk (rw (← here m hm gm) e))))
-        (λ gk. dite (decLt m (l .i)) (λ lm. absurd (no m lm (rw (← here k hk gk) (sym e)))) (λ gm. here k hk gk ∙ sym (here m hm gm))),
+          dite (decLt k (l .i))
+          (λ lk. dite (decLt m (l .i)) (λ lm. l .inv .1 k m lk lm e) (λ gm. absurd (no k lk (rw (← here m hm gm) e))))
+          (λ gk. dite (decLt m (l .i)) (λ lm. absurd (no m lm (rw (← here k hk gk) (sym e)))) (λ gm. here k hk gk ∙ sym (here m hm gm))),
     )
 
 returns-2 : tie.Need-returns-2 Inv-loop μ-loop

@@ -98,11 +98,11 @@ image-other block place other has there apart image whole =
     length-image (withImage block place image) other (omega (arith, length-with block place has image whole, there)) in
     ext-getD 0 _ _ (long ∙ sym (length-image block other there))
     (λ i h.
-      let small : i < 8832 = omega (arith, h, long) in
-      image-byte (withImage block place image) other i small
-      ∙ dite (decLt other place) (λ before. byte-before block place has image whole (other * 8832 + i) (omega (arith, small, before)))
-      (λ behind. byte-behind block place has image whole (other * 8832 + i) (omega (arith, behind, apart)))
-      ∙ sym (image-byte block other i small))
+    let small : i < 8832 = omega (arith, h, long) in
+    image-byte (withImage block place image) other i small
+    ∙ dite (decLt other place) (λ before. byte-before block place has image whole (other * 8832 + i) (omega (arith, small, before)))
+    (λ behind. byte-behind block place has image whole (other * 8832 + i) (omega (arith, behind, apart)))
+    ∙ sym (image-byte block other i small))
 
 -- ---- the board
 

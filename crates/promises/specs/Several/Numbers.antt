@@ -127,8 +127,8 @@ unfolding board.numberAt board.tagAt modeOf
 same-is l count =
     same-numbers count (board.numberAt (l .board)) (λ i. getD (numbersOf l 0 count) i 0)
     (λ i h.
-      let same : i ≡ 0 + i = omega arith in
-      ap (λ (n : ℕ). numberOf (tagAt l n)) same ∙ sym (numbers-at l 0 count i h))
+    let same : i ≡ 0 + i = omega arith in
+    ap (λ (n : ℕ). numberOf (tagAt l n)) same ∙ sym (numbers-at l 0 count i h))
     ∙ ap (λ (n : ℕ). sameNumber n (λ i. getD (numbersOf l 0 count) i 0)) (sym (length-numbers l 0 count))
     ∙ sym (twice-is (numbersOf l 0 count))
 

@@ -176,10 +176,13 @@ module _ (block numbers codes : List ℕ) (zero-is : newNumber block numbers cod
   unfolding emptyBoard board.imageAt board.tagAt modeOf
   made =
       let stays = across-stays (new-visits numbers codes) (length numbers) (begun block (emptyBoard (length numbers))) room in
-      rw made-is
-      (stays .tags, stays .count, stays .block,
-      λ place h. ap stateOf (across-own (new-visits numbers codes) (length numbers) place (begun block (emptyBoard (length numbers))) h room few),
-      λ place past. stays .past place (clearTag 0 0) past ∙ blank-at 7 place (clearTag 0 0))
+      rw made-is (
+        stays .tags,
+        stays .count,
+        stays .block,
+        λ place h. ap stateOf (across-own (new-visits numbers codes) (length numbers) place (begun block (emptyBoard (length numbers))) h room few),
+        λ place past. stays .past place (clearTag 0 0) past ∙ blank-at 7 place (clearTag 0 0),
+      )
 
   -- each tag is a new one that is accepted
   tag-accepted : (place : ℕ) → place < length numbers → events.newNumber (part place) (getD numbers place 0) (getD codes place 0) ≡ 0
@@ -233,15 +236,17 @@ fit-after {l} e fit ok =
 
 reached-line : {l : Line} → Reached l → FitLine l × ((place : ℕ) → place < countOf l → alone.Reached (tagAt l place))
 reached-line (Reached.new block numbers codes e) =
-    let zero-is = sym (new-number block numbers codes) ∙ ap numberIn e in
-    (new-fit block numbers codes zero-is,
-    λ place h. tag-reached block numbers codes zero-is place (subst (λ (n : ℕ). place < n) (made block numbers codes zero-is .1) h))
+    let zero-is = sym (new-number block numbers codes) ∙ ap numberIn e in (
+      new-fit block numbers codes zero-is,
+      λ place h. tag-reached block numbers codes zero-is place (subst (λ (n : ℕ). place < n) (made block numbers codes zero-is .1) h),
+    )
 reached-line (Reached.event {l} e before ok) =
-    let known = reached-line before in
-    (fit-after e (known .0) ok,
-    λ place h.
-    let here = subst (λ (n : ℕ). place < n) (event-remains l e ok .count) h in
-    subst alone.Reached (sym (event-tag l (known .0 .seven) e ok place here)) (reached-run (hears place e) (known .1 place here)))
+    let known = reached-line before in (
+      fit-after e (known .0) ok,
+      λ place h.
+          let here = subst (λ (n : ℕ). place < n) (event-remains l e ok .count) h in
+          subst alone.Reached (sym (event-tag l (known .0 .seven) e ok place here)) (reached-run (hears place e) (known .1 place here)),
+    )
 
 fit-number : {l : Line} → FitLine l → (code place reading : ℕ) →
     numberIn (lineStep (l .block) (l .board) code place reading .shown .answer)
@@ -291,9 +296,10 @@ pub valid-accepted : {l : Line} → FitLine l → (es : List LineEvent) → AllV
 unfolding AllAccepted AllValid
 valid-accepted fit [] valid = tt
 valid-accepted {l} fit (e ∷ es) valid =
-    let ok = fit-valid fit e (valid .0) in
-    (ok,
-    valid-accepted (fit-after e fit ok) es (subst (λ (n : ℕ). AllValid n es) (sym (event-remains l e ok .count)) (valid .1)))
+    let ok = fit-valid fit e (valid .0) in (
+      ok,
+      valid-accepted (fit-after e fit ok) es (subst (λ (n : ℕ). AllValid n es) (sym (event-remains l e ok .count)) (valid .1)),
+    )
 
 slots-valid : (count : ℕ) (bits : List Bool) → AllValid count (map LineEvent.slot bits)
 unfolding AllValid

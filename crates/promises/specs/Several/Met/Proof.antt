@@ -305,9 +305,10 @@ session-alike = by sent
   where
     by : (bits : List Bool) → AllAlike 2 (map LineEvent.slot bits ++ (LineEvent.tick 0 672 ∷ LineEvent.tick 1 1000 ∷ []))
         (map LineEvent.slot bits ++ (LineEvent.tick 0 1391 ∷ LineEvent.tick 1 1000 ∷ []))
-    by [] =
-        (line.Alike.ticks 0 672 1391 (omega arith) (omega arith) (omega arith),
-        (line.Alike.ticks 1 1000 1000 (omega arith) (omega arith) (omega arith), tt))
+    by [] = (
+      line.Alike.ticks 0 672 1391 (omega arith) (omega arith) (omega arith),
+      (line.Alike.ticks 1 1000 1000 (omega arith) (omega arith) (omega arith), tt),
+    )
     by (b ∷ bits) = (line.Alike.slots b, by bits)
 
 numbers-part : (s : State) → s .tag .exchange ≡ waiting number pad → numberOf s ≢ numberOf neighbour
