@@ -78,13 +78,11 @@ pub fn event(block: &mut [u8], board: Board, code: u8, place: u8, reading: u16) 
     let mut numbers = [0u64; 7];
     let mut good = true;
     let end = places(count);
-    let mut i = 0;
-    while i < end {
+    for i in 0..end {
         let tag = tags[i];
         let x = tag.exchange;
         numbers[i] = x.number;
         good = both(good, record::in_range(tag));
-        i += 1;
     }
     let same = same_number(&numbers[..end]);
     let answer = judge(count, block.len(), same, good, code, place, reading);

@@ -46,12 +46,12 @@ abbrev μ-loop : tie.MeasureT-loop
 μ-loop block code place reading count tags numbers₀ good₀ end i₀ numbers good i = end - i
 
 abbrev Inv-loop2 : tie.InvT-loop2
-Inv-loop2 block₀ code place reading count tags₀ good end i same answer line₀ at₀ block tags line at =
+Inv-loop2 block₀ code place reading count tags₀ good end same answer line₀ at₀ block tags line at =
     (at ≤ count) × (length block ≡ length block₀) × (length tags ≡ 7)
     × (across (reached code 0) at (count - at) (going block tags count line) ≡ across (reached code 0) 0 count (going block₀ tags₀ count true))
 
 abbrev μ-loop2 : tie.MeasureT-loop2
-μ-loop2 block₀ code place reading count tags₀ good end i same answer line₀ at₀ block tags line at = count - at
+μ-loop2 block₀ code place reading count tags₀ good end same answer line₀ at₀ block tags line at = count - at
 
 loop-holds : tie.Need-loop-holds Inv-loop μ-loop Inv-loop2 μ-loop2
 loop-holds c = (omega arith, c .places .ensures, search (needs, length-into), refl, (λ k h. absurd (omega (arith, h))), refl)
