@@ -22,7 +22,7 @@ fn main() {
     // A missing byte stays 00h.
     let mut count = [0u8; 1];
     io::read_full(STDIN_FILENO, &mut count);
-    // Of more than seven tags eight are read: such a line is refused for its count alone.
+    // Of more than seven tags eight heads are read: such a line is refused for its count alone.
     let mut numbers = [0u64; 8];
     let mut codes = [0u8; 8];
     let heads = read_heads(count[0], &mut numbers, &mut codes);

@@ -1,10 +1,9 @@
--- `shed::main` is safe: heads and block are lent as far as there are tags, of eight at most. Assumes nothing.
+-- `shed::main` is safe: no more is lent of the block, the numbers and the codes than there is. Assumes nothing.
 use mathlib.Core.Logic.{⊎-elim}
-use mathlib.Core.Path.{_≡_, sym}
+use mathlib.Core.Path.{sym}
 use Prim.Native.Nat.{_≤_}
 use native.Mathlib.Omega.{arith}
 use borrow.Author.Needs.{needs}
-use lib.ListN.{length}
 use lib.Seq.{length-take-le}
 use Rattle.shed.proofs.main.Statement.{statement}
 use Rattle.shed.proofs.main.Tie as tie
