@@ -1,5 +1,5 @@
 #!/bin/sh
-# Builds the plain programs and listed.c without a warning and runs the points of document 01 on those of play and list.
+# Builds the plain programs, listed.c and lines.c without a warning and runs the points of document 01 on those of play and list.
 # The last line is 'N passed, M failed'.
 cd "$(dirname "$0")" || exit 1
 passed=0
@@ -26,8 +26,10 @@ for checks in CHECKED UNCHECKED; do
     warnings=$(gcc -O2 -Wall -Wextra -std=c11 "-D$checks" -c -o "$object" plain_lists.c 2>&1)
     check "plain_lists builds without a warning, $checks" "$?$warnings" "0"
 done
-warnings=$(gcc -O2 -Wall -Wextra -std=c11 -c -o "$object" listed.c 2>&1)
-check "listed builds without a warning" "$?$warnings" "0"
+for main in listed lines; do
+    warnings=$(gcc -O2 -Wall -Wextra -std=c11 -c -o "$object" "$main.c" 2>&1)
+    check "$main builds without a warning" "$?$warnings" "0"
+done
 
 # The registration number of document 01, 41 2B C5 FB 00 00 00 with CRC-8 A1.
 number='\101\053\305\373\000\000\000\241'

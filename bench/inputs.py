@@ -3,7 +3,8 @@
 slots: a reader at a tag with passwords, over and over: Read ROM, a search, a write and read back of the scratchpad, pages
 of the log read with a wrong and a right password. seconds, minutes: ticks in a mission that converts every second (16-bit
 entries, rollover) or every minute. dump: a log of 8,192 entries, full and rolled over. bench/count also takes ticks of which
-none but the first converts, and a dump of 4,096 entries. The same events go to the programs of lists as words.
+none but the first converts, and a dump of 4,096 entries. The same events go to the programs of lists as words. Those for a line of
+several tags are what shed reads.
 """
 
 import pathlib
@@ -13,9 +14,11 @@ import sys
 
 sys.path.insert(0, str(pathlib.Path(__file__).resolve().parent.parent / "tests"))
 
-from model import dock, tag  # noqa: E402
+import boards  # noqa: E402
+from model import board, dock, tag  # noqa: E402
 from model.crc import crc8  # noqa: E402
-from model.master import Master  # noqa: E402
+from model.master import BoardMaster, Master  # noqa: E402
+from model.programs import HEAD  # noqa: E402
 
 PLAYED = {
     "slots": "slots of a reader's commands",
@@ -26,6 +29,8 @@ LEAST_EVENTS = 2_000_000
 # How many words a list has; and how many events go to the programs of lists, which take 1,048,576 words, the set-up's included.
 LIST_SIZES = (64, 4096)
 LISTED_EVENTS = 1_000_000
+# How many tags a line has.
+COUNTS = (1, 2, 4, 7)
 ROM = bytes.fromhex("412BC5FB000000")
 ROM += bytes((crc8(ROM),))
 CODE = 0x40
@@ -50,8 +55,8 @@ def new_master():
     return Master(made)
 
 
-def set_up(master, settings):
-    """Registers, passwords, Clear and Start: the next tick is the mission's first."""
+def set_up(master, settings, *tags):
+    """Registers, passwords, Clear and Start, by Skip: the next tick is the first of the mission of these tags."""
     registers = bytearray(32)
     registers[0x00:0x06] = bytes.fromhex("000012150126")
     registers[0x06:0x08] = settings["rate"].to_bytes(2, "little")
@@ -64,7 +69,7 @@ def set_up(master, settings):
     master.clear(FULL)
     master.skip()
     master.start(FULL)
-    assert master.tag.byte_at(0x0215) & 0x02, "the mission runs"
+    assert all(each.byte_at(0x0215) & 0x02 for each in tags), "the mission runs"
 
 
 def readings(rng):
@@ -77,13 +82,18 @@ def readings(rng):
 
 def events_of(master, before, least):
     """A header, what was played before, and the rest of what was played, repeated until it is long enough."""
-    body = bytes(master.triples[before:])
-    return NEW_TAG + bytes(master.triples[:before]) + body * -(-least * 3 // len(body))
+    return NEW_TAG + repeated(master.triples, before, least * 3)
+
+
+def repeated(events, before, least):
+    """The first of these bytes, and the others again and again, at least so many."""
+    body = bytes(events[before:])
+    return bytes(events[:before]) + body * -(-least // len(body))
 
 
 def slots(least):
     master = new_master()
-    set_up(master, SECONDS)
+    set_up(master, SECONDS, master.tag)
     before = len(master.triples)
     master.read_rom()
     master.search(ROM)
@@ -101,7 +111,7 @@ def slots(least):
 
 def ticks(settings, count):
     master = new_master()
-    set_up(master, settings)
+    set_up(master, settings, master.tag)
     wander = readings(random.Random(1))
     events = bytearray()
     for _ in range(count):
@@ -112,7 +122,7 @@ def ticks(settings, count):
 
 def full_dump(settings):
     master = new_master()
-    set_up(master, settings)
+    set_up(master, settings, master.tag)
     wander = readings(random.Random(2))
     for _ in range(9000):
         master.tick(next(wander))
@@ -144,3 +154,54 @@ def in_lists(given, size):
     sizes = [min(size, len(words) - at) for at in range(0, len(words), size)]
     return (struct.pack("<II", tag.IMAGE_LENGTH, len(sizes)) + given[:len(NEW_TAG)]
             + b"".join(struct.pack("<II", each, each) for each in sizes) + struct.pack(f"<{len(words)}H", *words))
+
+
+# ---- A line of several tags: the bytes that shed reads, with at least so many events ----
+
+def new_line(count, settings):
+    """A master at a line of so many tags, each in a mission, and what stands before its events."""
+    heads = [(rom, CODE) for rom in boards.different_numbers(random.Random(3), count)]
+    number, made = board.new(heads, tag.IMAGE_LENGTH * count)
+    assert number == 0
+    master = BoardMaster(made)
+    set_up(master, settings, *made.tags)
+    return master, boards.head_of(heads)
+
+
+def line_slots(choose, count, least):
+    """A reader at the tags that `choose` chooses: the scratchpad written and read back, pages of the log read with a wrong and with a
+    right password."""
+    master, head = new_line(count, SECONDS)
+    before = len(master.groups)
+    choose(master)
+    master.write_scratchpad(0x0000, bytes(range(32)))
+    choose(master)
+    master.read_scratchpad()
+    for page in range(0x1000, 0x1100, 0x20):
+        for password in (b"SOMEBODY", READ):
+            choose(master)
+            master.read_memory(page, 32, password)
+    return head + repeated(master.groups, before, least * boards.WIDTH)
+
+
+def match_last(master):
+    master.match(master.tag.tags[-1].rom)
+
+
+def line_resets(count, least):
+    master, head = new_line(count, SECONDS)
+    before = len(master.groups)
+    master.long_reset()
+    return head + repeated(master.groups, before, least * boards.WIDTH)
+
+
+def line_ticks(settings, count, least):
+    """For one tag after the other."""
+    master, head = new_line(count, settings)
+    wander = readings(random.Random(1))
+    return head + bytes(master.groups) + b"".join(struct.pack(">BBH", TICK, at % count, next(wander)) for at in range(least))
+
+
+def line_events_in(given):
+    """How many events an input of shed has."""
+    return (len(given) - 1 - HEAD * given[0]) // boards.WIDTH

@@ -98,3 +98,9 @@ class Counter:
         if list_size is not None:
             short, long = inputs.in_lists(short, list_size), inputs.in_lists(long, list_size)
         return [count / events for count in self.differences(programs, short, long)]
+
+    def a_line_event(self, programs, make, tags):
+        """What one event of a line of so many tags takes, for each program."""
+        short, long = make(tags, SHORT // tags), make(tags, LONG // tags)
+        events = inputs.line_events_in(long) - inputs.line_events_in(short)
+        return [count / events for count in self.differences(programs, short, long)]
