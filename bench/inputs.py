@@ -169,8 +169,8 @@ def new_line(count, settings):
 
 
 def line_slots(choose, count, least):
-    """A reader at the tags that `choose` chooses: the scratchpad written and read back, pages of the log read with a wrong and with a
-    right password."""
+    """A reader at the tags that `choose` chooses: the scratchpad written and read back, pages of the log read with a wrong and
+    with a right password."""
     master, head = new_line(count, SECONDS)
     before = len(master.groups)
     choose(master)
@@ -199,7 +199,8 @@ def line_ticks(settings, count, least):
     """For one tag after the other."""
     master, head = new_line(count, settings)
     wander = readings(random.Random(1))
-    return head + bytes(master.groups) + b"".join(struct.pack(">BBH", TICK, at % count, next(wander)) for at in range(least))
+    ticked = (struct.pack(">BBH", TICK, at % count, next(wander)) for at in range(least))
+    return head + bytes(master.groups) + b"".join(ticked)
 
 
 def line_events_in(given):
