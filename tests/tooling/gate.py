@@ -10,7 +10,8 @@ from .common import DONE, TOP, start
 
 with open(os.path.join(TOP, ".ci", "run"), encoding="utf-8") as file:
     SCRIPTS = re.findall(r"(?m)^without_proof (\S+)", file.read())
-DUE = {"tests/determinacy", "tests/examples", "tests/tools", "tests/take", "tests/run", "tests/lists", "tests/library", "chip/test"}
+DUE = {"tests/determinacy", "tests/examples", "tests/tools", "tests/take", "tests/run", "tests/lists", "tests/lines", "tests/library",
+       "chip/test"}
 
 
 def make(folder, path, text):
