@@ -2,7 +2,8 @@
  * Plays events to a new line of tags, by the function on_a_line of line.rattle or apart.rattle beside it.
  *
  * Standard input is that of shed: the count; for each tag eight ROM bytes and the code; then four bytes an event.
- * Standard output: the new line's answer; a byte for each event, its line bit; the block, which is 55h before.
+ * Standard output: the number of the first refusal, 0 if there is none; a byte for each event, its line bit; the block, which is 55h
+ * before.
  */
 #include "plain.h"
 
