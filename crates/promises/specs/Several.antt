@@ -141,9 +141,8 @@ pub record OneTag : Type 0 where
   -- and the line's bits are the AND of the tags' bits, each as alone
   pub line : (l : Line) → Seven l → (es : List LineEvent) → AllAccepted l es → run l es .line ≡ lineOf (countOf l) (tagAt l) es
   -- the count stays, and records from the count on "come back as given"
-  pub count : (l : Line) → Seven l → (es : List LineEvent) → AllAccepted l es → countOf (run l es .end) ≡ countOf l
-  pub past : (l : Line) → Seven l → (es : List LineEvent) → AllAccepted l es → (place : ℕ) → countOf l ≤ place →
-      tagAt (run l es .end) place .tag ≡ tagAt l place .tag
+  pub count : (l : Line) (es : List LineEvent) → countOf (run l es .end) ≡ countOf l
+  pub past : (l : Line) (es : List LineEvent) (place : ℕ) → countOf l ≤ place → tagAt (run l es .end) place .tag ≡ tagAt l place .tag
 
 -- ---- 2. demand 1
 

@@ -16,8 +16,7 @@ use Rattle.board.specs.Board as board
 use Rattle.board.specs.Board.{Going, Left, begun, reached, across, taken, accepted, judged, lineStep, namesNone, isHigh}
 use Rattle.board.specs.Board.Laws.{Passed, passed, counted, line-judged, line-taken, taken-tick, taken-given, tick-named, tick-low}
 use Rattle.board.specs.Board.Places.{Has, length-image}
-use Rattle.board.specs.Board.Visits as visits
-use Rattle.board.specs.Board.Visits.{Own, ownAt, leftBy, Stays, bitAt, visit-own, visit-other, visit-stays, across-stays, across-own, across-line, reached-visits}
+use Rattle.board.specs.Board.Visits.{Own, ownAt, Stays, stays-same, stays-then, visit-own, visit-other, across-own, across-line, reached-visits, line-stays}
 use Rattle.event.specs.Event.{tickTag}
 use Rattle.record.specs.Record.{Outcome, tagInRange}
 use Rattle.select.specs.Select.{modeOf}
@@ -42,16 +41,12 @@ unfolding board.imageAt board.tagAt modeOf
 own-is l place = refl
 
 -- what stays of a line over events: the count, the lengths, and the records that are not looked at
-pub record Remains (before after : Line) : Type 0 where
-  pub count : countOf after ≡ countOf before
-  pub seven : length (after .board .tags) ≡ length (before .board .tags)
-  pub size : length (after .block) ≡ length (before .block)
-  pub past : (place : ℕ) → countOf before ≤ place → tagAt after place .tag ≡ tagAt before place .tag
+abbrev pub Remains : Line → Line → Type 0
+Remains before after = Stays (countOf before) (before .block) (before .board) (after .block) (after .board)
 
--- as `board` has it, of some places that are all below the count
-remains-by : {from : ℕ} {l : Line} {g : Going} → Stays from (going l) g → from ≤ countOf l → Remains l (record { block = g .block; board = g .board })
-remains-by {from} {l} s h =
-    record { count = s .count; seven = s .tags; size = s .block; past = λ place past. s .past place _ (omega (arith, past, h)) }
+pub event-remains : (l : Line) (e : LineEvent) → Remains l (after l e)
+unfolding after
+event-remains l e = line-stays (l .block) (l .board) (codeOf e) (placeOf e) (readingOf e)
 
 -- ---- an event that is accepted
 
@@ -98,10 +93,6 @@ module _ (l : Line) (e : LineEvent) (ok : Accepts l e) where
     room : countOf l * 8832 ≤ length (l .block)
     room = omega (arith, pass .whole)
 
-    given-remains : Remains l (after l e)
-    unfolding after
-    given-remains = rw given-is (remains-by (across-stays (reached-visits (codeOf e) 0) (countOf l) (going l) room) (omega arith))
-
     given-tag : Seven l → (f : Event) → alone.codeOf f ≡ codeOf e → alone.readingOf f ≡ 0 → readingOf e ≡ 0 → (place : ℕ) → place < countOf l →
         tagAt (after l e) place ≡ alone.after (tagAt l place) f
     unfolding after alone.after board.imageAt board.tagAt modeOf
@@ -132,10 +123,6 @@ module _ (l : Line) (place reading : ℕ) (ok : Accepts l (LineEvent.tick place 
 
   here : (i : ℕ) → i < countOf l → Has (l .block) i
   here i h = omega (arith, h, pass l (LineEvent.tick place reading) ok .whole)
-
-  tick-remains : Remains l (after l (LineEvent.tick place reading))
-  unfolding after
-  tick-remains = rw tick-is (remains-by (visit-stays (reached-visits 3 reading) place (going l) (here place named)) (omega (arith, named)))
 
   tick-own : Seven l → tagAt (after l (LineEvent.tick place reading)) place ≡ alone.after (tagAt l place) (Event.tick reading)
   unfolding after alone.after board.imageAt board.tagAt modeOf
@@ -171,13 +158,6 @@ module _ (l : Line) (place reading : ℕ) (ok : Accepts l (LineEvent.tick place 
 
 -- ---- any event
 
-pub event-remains : (l : Line) (e : LineEvent) → Accepts l e → Remains l (after l e)
-event-remains l (LineEvent.slot true) ok = given-remains l (LineEvent.slot true) ok (omega arith)
-event-remains l (LineEvent.slot false) ok = given-remains l (LineEvent.slot false) ok (omega arith)
-event-remains l LineEvent.reset ok = given-remains l LineEvent.reset ok (omega arith)
-event-remains l (LineEvent.tick place reading) ok = tick-remains l place reading ok
-event-remains l LineEvent.short ok = given-remains l LineEvent.short ok (omega arith)
-
 pub event-tag : (l : Line) → Seven l → (e : LineEvent) → Accepts l e → (place : ℕ) → place < countOf l →
     tagAt (after l e) place ≡ alone.run (tagAt l place) (hears place e) .state
 unfolding alone.run
@@ -198,19 +178,14 @@ event-line l (LineEvent.tick place reading) ok = tick-line l place reading ok
 
 -- ---- events one after the other
 
-remains-then : {a b c : Line} → Remains a b → Remains b c → Remains a c
-remains-then p q =
-    record {
-      count = q .count ∙ p .count;
-      seven = q .seven ∙ p .seven;
-      size = q .size ∙ p .size;
-      past = λ place past. q .past place (rw (p .count) past) ∙ p .past place past;
-    }
-
-pub run-remains : (l : Line) (es : List LineEvent) → AllAccepted l es → Remains l (run l es .end)
-unfolding run AllAccepted
-run-remains l [] ok = record { count = refl; seven = refl; size = refl; past = λ place past. refl }
-run-remains l (e ∷ es) ok = remains-then (event-remains l e (ok .0)) (run-remains (after l e) es (ok .1))
+pub run-remains : (l : Line) (es : List LineEvent) → Remains l (run l es .end)
+unfolding run
+run-remains l [] = stays-same
+run-remains l (e ∷ es) =
+    let first = event-remains l e in
+    let end = run (after l e) es .end in
+    stays-then (omega arith) first
+    (subst (λ (n : ℕ). Stays n (after l e .block) (after l e .board) (end .block) (end .board)) (first .count) (run-remains (after l e) es))
 
 -- a tag on the line is a tag
 pub run-tag : (l : Line) → Seven l → (es : List LineEvent) → AllAccepted l es → (place : ℕ) → place < countOf l →
@@ -218,8 +193,8 @@ pub run-tag : (l : Line) → Seven l → (es : List LineEvent) → AllAccepted l
 unfolding run AllAccepted alone.run flatMap
 run-tag l seven [] ok place h = refl
 run-tag l seven (e ∷ es) ok place h =
-    let stays = event-remains l e (ok .0) in
-    run-tag (after l e) (stays .seven ∙ seven) es (ok .1) place (rw (stays .count) h)
+    let stays = event-remains l e in
+    run-tag (after l e) (stays .tags ∙ seven) es (ok .1) place (rw (stays .count) h)
     ∙ ap (λ (s : State). alone.run s (heard place es) .state) (event-tag l seven e (ok .0) place h)
     ∙ sym (ap (λ (r : alone.Ran). r .state) (run-append (tagAt l place) (hears place e) (heard place es)))
 
@@ -239,10 +214,10 @@ pub run-line : (l : Line) → Seven l → (es : List LineEvent) → AllAccepted 
 unfolding run AllAccepted lineOf
 run-line l seven [] ok = refl
 run-line l seven (e ∷ es) ok =
-    let stays = event-remains l e (ok .0) in
+    let stays = event-remains l e in
     let bit = event-line l e (ok .0) in
     let rest =
-    run-line (after l e) (stays .seven ∙ seven) es (ok .1)
+    run-line (after l e) (stays .tags ∙ seven) es (ok .1)
     ∙ ap (λ (n : ℕ). lineOf n (tagAt (after l e)) es) (stays .count)
     ∙ line-same (countOf l) (tagAt (after l e)) _ es (event-tag l seven e (ok .0)) in
     λ i. bit i ∷ rest i

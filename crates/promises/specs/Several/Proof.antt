@@ -10,15 +10,15 @@ use lib.Dec.{eqb, leb, ltb}
 use lib.ListN.{length, getD, take, drop, replicate, length-drop}
 use lib.Seq.{take-at, length-take-le}
 use denote.Ref.{now}
-use Rattle.answer.specs.declared.Answer.{Answer}
+use Rattle.answer.specs.Answer.{answerNumber}
 use Rattle.bits.specs.Bits.{bitsOf, shiftAll}
 use Rattle.bits.specs.Bits.Laws.{heard-whole, length-bits}
 use Rattle.bits.specs.Each.{each, each-true}
 use Rattle.bits.specs.Tests.{neither}
 use Rattle.board.specs.Board as board
-use Rattle.board.specs.Board.{Left, lineStep, newLine, across, newAt, begun, accepted, emptyBoard}
+use Rattle.board.specs.Board.{Left, lineStep, newLine, begun, emptyBoard}
 use Rattle.board.specs.Board.Laws as board-laws
-use Rattle.board.specs.Board.Visits.{across-stays, across-own, new-visits}
+use Rattle.board.specs.Board.Visits.{across-own, new-visits, new-stays}
 use Rattle.board.specs.declared.Board.{Board}
 use Rattle.board.specs.declared.Shown.{Shown}
 use Rattle.record.specs.declared.Tag.{Tag}
@@ -47,13 +47,17 @@ use Rattle.promises.specs.Words.Laws.{low-is}
 
 -- ---- a tag on the line is a tag
 
+run-past : (l : Line) (es : List LineEvent) (place : ℕ) → countOf l ≤ place → tagAt (run l es .end) place .tag ≡ tagAt l place .tag
+unfolding board.tagAt modeOf
+run-past l es = run-remains l es .past
+
 pub one-tag : OneTag
 one-tag =
     record {
       tags = run-tag;
       line = run-line;
-      count = λ l seven es ok. run-remains l es ok .count;
-      past = λ l seven es ok. run-remains l es ok .past;
+      count = λ l es. run-remains l es .count;
+      past = run-past;
     }
 
 -- ---- numbers
@@ -159,10 +163,8 @@ module _ (block numbers codes : List ℕ) (zero-is : newNumber block numbers cod
   few : length numbers ≤ 7
   few = many-some (length numbers) (fine .many)
 
-  made-is : newLine block numbers codes ≡ accepted (across (newAt numbers codes) 0 (length numbers) (begun block (emptyBoard (length numbers))))
-  made-is =
-      board-laws.new-taken block numbers codes
-      (ap numberIn (sym (board-laws.new-answer block numbers codes)) ∙ new-number block numbers codes ∙ zero-is)
+  judged : answerNumber (board.newJudged (length block) numbers codes) ≡ 0
+  judged = ap numberIn (sym (board-laws.new-answer block numbers codes)) ∙ new-number block numbers codes ∙ zero-is
 
   room : length numbers * 8832 ≤ length block
   room = omega (arith, fine .size)
@@ -175,13 +177,14 @@ module _ (block numbers codes : List ℕ) (zero-is : newNumber block numbers cod
       × ((place : ℕ) → length numbers ≤ place → tagAt new place .tag ≡ clearTag 0 0)
   unfolding emptyBoard board.imageAt board.tagAt modeOf
   made =
-      let stays = across-stays (new-visits numbers codes) (length numbers) (begun block (emptyBoard (length numbers))) room in
-      rw made-is (
+      let stays = new-stays block numbers codes judged in (
         stays .tags,
         stays .count,
-        stays .block,
-        λ place h. ap stateOf (across-own (new-visits numbers codes) (length numbers) place (begun block (emptyBoard (length numbers))) h room few),
-        λ place past. stays .past place (clearTag 0 0) past ∙ blank-at 7 place (clearTag 0 0),
+        stays .size,
+        λ place h.
+            ap (λ (o : Left). tagAt (leaves o) place) (board-laws.new-taken block numbers codes judged)
+            ∙ ap stateOf (across-own (new-visits numbers codes) (length numbers) place (begun block (emptyBoard (length numbers))) h room few),
+        λ place past. stays .past place past ∙ blank-at 7 place (clearTag 0 0),
       )
 
   -- each tag is a new one that is accepted
@@ -221,13 +224,13 @@ module _ (block numbers codes : List ℕ) (zero-is : newNumber block numbers cod
 
 fit-after : {l : Line} (e : LineEvent) → FitLine l → Accepts l e → FitLine (after l e)
 fit-after {l} e fit ok =
-    let stays = event-remains l e ok in
+    let stays = event-remains l e in
     let below : (k : ℕ) → k < countOf (after l e) → k < countOf l = λ k h. subst (λ (n : ℕ). k < n) (stays .count) h in
     let tag : (k : ℕ) → k < countOf l → tagAt (after l e) k ≡ alone.run (tagAt l k) (hears k e) .state = event-tag l (fit .seven) e ok in
     let number : (k : ℕ) → k < countOf l → numberOf (tagAt (after l e) k) ≡ numberOf (tagAt l k) =
     λ k h. ap numberOf (tag k h) ∙ number-run (hears k e) (fit-sound (fit .tags k h)) in
     record {
-      seven = stays .seven ∙ fit .seven;
+      seven = stays .tags ∙ fit .seven;
       many = ap isMany (stays .count) ∙ fit .many;
       size = stays .size ∙ fit .size ∙ ap (λ (n : ℕ). n * 8832) (sym (stays .count));
       apart = λ i j hi hj same. fit .apart i j (below i hi) (below j hj) (sym (number i (below i hi)) ∙ same ∙ number j (below j hj));
@@ -244,7 +247,7 @@ reached-line (Reached.event {l} e before ok) =
     let known = reached-line before in (
       fit-after e (known .0) ok,
       λ place h.
-          let here = subst (λ (n : ℕ). place < n) (event-remains l e ok .count) h in
+          let here = subst (λ (n : ℕ). place < n) (event-remains l e .count) h in
           subst alone.Reached (sym (event-tag l (known .0 .seven) e ok place here)) (reached-run (hears place e) (known .1 place here)),
     )
 
@@ -298,7 +301,7 @@ valid-accepted fit [] valid = tt
 valid-accepted {l} fit (e ∷ es) valid =
     let ok = fit-valid fit e (valid .0) in (
       ok,
-      valid-accepted (fit-after e fit ok) es (subst (λ (n : ℕ). AllValid n es) (sym (event-remains l e ok .count)) (valid .1)),
+      valid-accepted (fit-after e fit ok) es (subst (λ (n : ℕ). AllValid n es) (sym (event-remains l e .count)) (valid .1)),
     )
 
 slots-valid : (count : ℕ) (bits : List Bool) → AllValid count (map LineEvent.slot bits)
@@ -350,7 +353,7 @@ touched-not : {l : Line} → FitLine l → (j : ℕ) → j < countOf l → let s
     LeftAlone (tagAt s j) (heard j (stretches first rest)) (tagAt (run s (stretches first rest) .end) j)
 touched-not {l} fit j h first rest ok elsewhere each =
     let reset = fit-valid fit LineEvent.reset tt in
-    let here : j < countOf (after l LineEvent.reset) = subst (λ (n : ℕ). j < n) (sym (event-remains l LineEvent.reset reset .count)) h in
+    let here : j < countOf (after l LineEvent.reset) = subst (λ (n : ℕ). j < n) (sym (event-remains l LineEvent.reset .count)) h in
     let sound = fit-sound (fit .tags j h) in
     let same = after-reset fit j h in
     aside (fit-after LineEvent.reset fit reset) (stretches first rest) ok j here
