@@ -16,7 +16,6 @@ use Rattle.board.specs.declared.Board.{Board}
 use Rattle.board.specs.declared.Shown.{Shown}
 use Rattle.board.proofs.event.Reads as event-call
 use Rattle.board.proofs.new.Reads as new-call
-use Rattle.record.specs.declared.Tag.{Tag}
 use Rattle.select.specs.declared.Choosing.{Choosing}
 use Rattle.tag.specs.Tag.{newTag}
 use Rattle.promises.specs.Overdrive.{NoLong, slotsIn, Starts}

@@ -1,16 +1,14 @@
 -- `board::event` meets its contract. The first loop reads every number and judges every record; the second gives the event to the tags that are
 -- left, and what it has left to do leads to what all of it does. Assumes nothing.
-use mathlib.Core.Bool.{Bool, true, false, _&&_}
+use mathlib.Core.Bool.{Bool, true}
 use mathlib.Core.List.{List, map}
 use mathlib.Core.Path.{_≡_, refl, sym, ap, _∙_}
-use mathlib.Core.Logic.{dite}
 use Prim.Native.Nat.{ℕ, _+_, _*_, _-_, _≤_, _<_}
-use native.Mathlib.Decide.{decLt}
 use native.Mathlib.Numerals.{add-one}
 use native.Mathlib.Omega.{arith}
 use borrow.Author.Needs.{needs}
-use lib.ListN.{length, getD, set, take, length-set, length-map}
-use lib.Seq.{length-take-le, getD-take, getD-set-same, getD-set-other}
+use lib.ListN.{length, getD, set, length-set, length-map}
+use lib.Seq.{length-take-le}
 use Rattle.bits.specs.Each.{each, each-next}
 use Rattle.event.specs.Event.{tickTag}
 use Rattle.record.specs.declared.Answered.{Answered}
@@ -21,7 +19,7 @@ use Rattle.answer.specs.Answer.{answerNumber}
 use Rattle.answer.specs.Answer.Laws.{accepted-is}
 use Rattle.answer.specs.declared.Answer.{Answer}
 use Rattle.board.specs.Board.{tagAt, withTag, numberAt, sameNumber, judged, Left, Going, begun, reached, across, accepted}
-use Rattle.board.specs.Board.Laws.{counted, Passed, passed, placesOf, places-some, places-counted, judged-by, line-refused, line-taken, taken-tick, taken-given, across-all, across-next, across-over, tick-named, tick-low, heard, reached-heard, reached-ticked}
+use Rattle.board.specs.Board.Laws.{counted, Passed, passed, placesOf, places-some, places-counted, judged-by, line-refused, line-taken, taken-tick, taken-given, across-all, across-next, across-over, tick-named, tick-low, reached-heard, reached-ticked}
 use Rattle.board.specs.Board.Places.{Has, part-is, put-is, length-image, length-with}
 use Rattle.board.specs.Board.Reading.{read-is, numbers-next, same-read}
 use Rattle.board.proofs.event.Statement.{statement}

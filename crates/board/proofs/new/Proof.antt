@@ -12,7 +12,7 @@ use Rattle.answer.specs.Answer.Laws.{accepted-is}
 use Rattle.answer.specs.declared.Answer.{Answer}
 use Rattle.record.specs.declared.Tag.{Tag}
 use Rattle.board.specs.declared.Board.{Board}
-use Rattle.board.specs.Board.{withTag, newJudged, Left, Going, begun, emptyBoard, newAt, across, accepted}
+use Rattle.board.specs.Board.{withTag, Left, Going, begun, emptyBoard, newAt, across, accepted}
 use Rattle.board.specs.Board.Laws.{counted, Good, good, new-refused, new-taken, across-all, made-at, across-next, across-over}
 use Rattle.board.specs.Board.Places.{Has, part-is, put-is, length-image, length-with}
 use Rattle.board.proofs.new.Statement.{statement}

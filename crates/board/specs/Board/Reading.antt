@@ -9,7 +9,7 @@ use lib.ListN.{length, getD, set, take}
 use lib.Seq.{length-take-le, getD-take, getD-set-same, getD-set-other}
 use Rattle.record.specs.declared.Tag.{Tag}
 use Rattle.board.specs.declared.Board.{Board}
-use Rattle.board.specs.Board.{tagAt, numberAt, sameNumber}
+use Rattle.board.specs.Board.{tagAt, sameNumber}
 use Rattle.board.specs.Board.Numbers.{same-numbers}
 use Rattle.board.specs.Board.Places.{getD-any}
 

@@ -1,6 +1,6 @@
 -- What is done place by place leaves at each place what is done there, and the others as they were: of an event that goes to all, and of a new
 -- line. Assumes nothing.
-use mathlib.Core.Bool.{Bool, true, _&&_}
+use mathlib.Core.Bool.{Bool, true}
 use mathlib.Core.Path.{_≡_, refl, ap, _∙_}
 use mathlib.Core.List.{List}
 use mathlib.Core.Logic.{_≢_, dite}

@@ -1,7 +1,7 @@
 -- `console::move_begun` meets its contract. The bytes before `from` are moved already, and from there on they lie where they lay,
 -- since none is stored behind the place that is read. The measure is the bytes still to be moved. Assumes nothing.
-use mathlib.Core.Path.{_≡_, refl, sym, ap, _∙_}
-use Prim.Native.Nat.{_+_, _-_, _≤_, min}
+use mathlib.Core.Path.{_≡_, sym, ap, _∙_}
+use Prim.Native.Nat.{_-_, _≤_}
 use native.Mathlib.Nat.{mod-le, sub-self}
 use native.Mathlib.Omega.{arith}
 use borrow.Author.Needs.{needs}

@@ -1,6 +1,6 @@
 -- `console::put_bit` meets its contract: both characters where there is room for both, else the first, if there is room for it.
 -- Each name says what was known after that call. Assumes nothing.
-use mathlib.Core.Path.{_≡_, sym}
+use mathlib.Core.Path.{sym}
 use mathlib.Core.Logic.{⊎-elim}
 use Prim.Native.Nat.{_≤_, _-_, suc}
 use native.Mathlib.Numerals.{add-one}

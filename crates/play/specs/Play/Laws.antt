@@ -6,7 +6,7 @@ use native.Mathlib.Nat.{add-zero}
 use native.Mathlib.Omega.{arith}
 use lib.ListN.{getD, take, drop}
 use Rattle.answer.specs.Answer.{answerNumber}
-use Rattle.console.specs.Console.{Reply, readingOf}
+use Rattle.console.specs.Console.{readingOf}
 use Rattle.console.specs.Console.Laws.{group-byte}
 use Rattle.record.specs.declared.Answered.{Answered}
 use Rattle.record.specs.declared.Tag.{Tag}

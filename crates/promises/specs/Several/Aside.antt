@@ -9,11 +9,9 @@ use native.Mathlib.Decide.{decLe}
 use native.Mathlib.Omega.{arith}
 use borrow.Author.Tests.{eqb-true}
 use lib.Dec.{eqb}
-use lib.ListN.{length}
 use Rattle.bits.specs.Bits.{bitsOf}
 use Rattle.bits.specs.Bits.Laws.{heard-whole, length-bits}
 use Rattle.event.specs.Event.{done, slotted, resetTag, tickTag, performed, performedCounters}
-use Rattle.exchange.specs.declared.Exchange.{Exchange}
 use Rattle.exchange.specs.Exchange.Laws as exchange-laws
 use Rattle.mission.specs.Mission.{ticked, tickedCounters}
 use Rattle.record.specs.Record.Laws.{ranges-of}
@@ -23,7 +21,7 @@ use Rattle.select.specs.declared.Select.{Select}
 use Rattle.select.specs.Select as select
 use Rattle.select.specs.Select.Laws.{speed-of}
 use Rattle.promises.specs.Demand3.Left.{tick-cases}
-use Rattle.promises.specs.Overdrive.{NoLong, slotsIn, Starts}
+use Rattle.promises.specs.Overdrive.{NoLong, slotsIn}
 use Rattle.promises.specs.Overdrive.Proof.{slow}
 use Rattle.promises.specs.Runs.{State, Event, after, leaves, run, ticksOf, Kept, Always}
 use Rattle.promises.specs.Runs.Laws.{Sound, sound-after, slot-happens, reset-happens, tick-happens, tick-passed, reset-keeps, short-keeps, sound-run}

@@ -3,23 +3,21 @@
 use mathlib.Core.Path.{_≡_, refl, sym, ap, subst, _∙_}
 use mathlib.Core.Bool.{Bool, true, false, Bool·beq, false≢true}
 use mathlib.Core.List.{List, [], _∷_, _++_}
-use mathlib.Core.Logic.{_≢_, _⊎_, inl, inr, dite, ⊎-elim}
-use Prim.Native.Nat.{ℕ, suc, _+_, _-_, _/_, _^_, _<_, _≤_}
+use mathlib.Core.Logic.{_≢_, _⊎_, dite, ⊎-elim}
+use Prim.Native.Nat.{ℕ, suc, _+_, _-_, _/_, _^_, _<_}
 use native.Mathlib.Decide.{decLt}
-use native.Mathlib.Nat.{div-one, add-zero}
+use native.Mathlib.Nat.{div-one}
 use native.Mathlib.Omega.{arith}
 use borrow.Author.Tests.{ltb-true}
 use lib.ListN.{length, getD, drop}
 use Rattle.bits.specs.Bits.{bitOf, bitsOf, shiftIn, shiftAll}
 use Rattle.bits.specs.Bits.Laws.{no-bits, bits-from}
-use Rattle.bits.specs.Choose.{either}
-use Rattle.bits.specs.Tests.{beq-eq}
 use Rattle.select.specs.declared.Choosing.{Choosing}
 use Rattle.select.specs.declared.Choosing.the-variants.{Silent, Command, Matching, Selected}
 use Rattle.select.specs.declared.Mode.{Mode}
 use Rattle.select.specs.declared.Select.{Select}
-use Rattle.select.specs.Select.{markIn, speedIn, modeOf, keeps, romCommand, following, heardBit, slotAt, slotOf, isChosen, choosingInRange}
-use Rattle.select.specs.Select.Laws.{command-more, command-last, following-more, heard-right-more, heard-wrong, same-bit}
+use Rattle.select.specs.Select.{markIn, speedIn, modeOf, romCommand, following, heardBit, slotAt, slotOf, isChosen, choosingInRange}
+use Rattle.select.specs.Select.Laws.{command-more, command-last, following-more, heard-right-more, heard-wrong}
 use Rattle.promises.specs.Overdrive.{Starts}
 
 -- a whole command byte after which these slots choose no tag with this number: Match without the whole of it, or Resume without the mark

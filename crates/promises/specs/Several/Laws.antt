@@ -1,19 +1,17 @@
 -- One event of a line, and events one after the other: what each place holds afterwards, and the bits on the line. Assumes nothing.
 use mathlib.Core.Path.{_≡_, refl, sym, ap, subst, _∙_}
-use mathlib.Core.Bool.{Bool, true, false, _&&_}
-use mathlib.Core.List.{List, [], _∷_, _++_, flatMap}
+use mathlib.Core.Bool.{Bool, true, false}
+use mathlib.Core.List.{List, [], _∷_, flatMap}
 use mathlib.Core.Logic.{_≢_, dite}
-use Prim.Native.Nat.{ℕ, zero, suc, _+_, _*_, _≤_, _<_}
+use Prim.Native.Nat.{ℕ, _*_, _≤_, _<_}
 use native.Mathlib.Decide.{ℕ-discrete}
 use native.Mathlib.Omega.{arith}
-use borrow.Author.Tests.{eq-eqb, ne-eqb, eqb-true}
+use borrow.Author.Tests.{eq-eqb, ne-eqb}
 use lib.Dec.{eqb}
-use lib.ListN.{length, getD, take, drop}
-use Rattle.answer.specs.Answer.{answerNumber}
-use Rattle.answer.specs.declared.Answer.{Answer}
-use Rattle.bits.specs.Each.{each, each-true, each-false, each-holds, each-same}
+use lib.ListN.{length}
+use Rattle.bits.specs.Each.{each, each-true, each-holds, each-same}
 use Rattle.board.specs.Board as board
-use Rattle.board.specs.Board.{Going, Left, begun, reached, across, taken, accepted, judged, lineStep, namesNone, isHigh}
+use Rattle.board.specs.Board.{Going, Left, begun, reached, across, taken, accepted, judged, lineStep}
 use Rattle.board.specs.Board.Laws.{Passed, passed, counted, line-judged, line-taken, taken-tick, taken-given, tick-named, tick-low}
 use Rattle.board.specs.Board.Places.{Has, length-image}
 use Rattle.board.specs.Board.Visits.{Own, ownAt, Stays, stays-same, stays-then, visit-own, visit-other, across-own, across-line, reached-visits, line-stays}

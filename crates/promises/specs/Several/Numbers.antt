@@ -1,26 +1,24 @@
 -- The numbers of a line's answers, by what stands in the line. Assumes nothing.
 use mathlib.Core.Path.{_≡_, refl, sym, ap, _∙_}
-use mathlib.Core.Bool.{Bool, true, false, not, _&&_, _||_, true≢false, false≢true}
+use mathlib.Core.Bool.{Bool, true, false, not, _&&_, _||_, false≢true}
 use mathlib.Core.List.{List, [], _∷_}
-use mathlib.Core.Logic.{_≢_, dite}
-use Prim.Native.Nat.{ℕ, zero, suc, _+_, _*_, _-_, _<_, _≤_}
+use mathlib.Core.Logic.{_≢_}
+use Prim.Native.Nat.{ℕ, zero, suc, _+_, _*_, _-_, _<_}
 use native.Mathlib.Nat.{add-zero}
 use native.Mathlib.Numerals.{add-one}
 use native.Mathlib.Omega.{arith}
-use borrow.Author.Tests.{eqb-true, eqb-false, eq-eqb, ne-eqb}
+use borrow.Author.Tests.{eqb-true, eqb-false}
 use lib.Dec.{eqb, leb, ltb}
 use lib.ListN.{length, getD, drop, drop-of-length-le}
 use lib.Seq.{drop-cons}
 use Rattle.answer.specs.declared.Answer.{Answer}
-use Rattle.bits.specs.Choose.{either}
 use Rattle.bits.specs.Each.{each, each-same}
 use Rattle.bits.specs.Tests.{neither}
 use Rattle.board.specs.Board as board
-use Rattle.board.specs.Board.{Left, lineStep, newLine, judged, judgedBy, newJudged, newFault, sameNumber, isCount, namesNone, isHigh}
+use Rattle.board.specs.Board.{lineStep, newLine, judged, judgedBy, newJudged, newFault, sameNumber, isCount, namesNone, isHigh}
 use Rattle.board.specs.Board.Laws as board-laws
 use Rattle.board.specs.Board.Numbers.{same-found, same-none, same-numbers}
-use Rattle.board.specs.declared.Board.{Board}
-use Rattle.record.specs.Record.{goodNumber, goodCode, tagInRange}
+use Rattle.record.specs.Record.{goodCode, tagInRange}
 use Rattle.select.specs.Select.{modeOf}
 use Rattle.promises.specs.Ranges.{isRom, isConfiguration, inRange}
 use Rattle.promises.specs.Ranges.Laws.{range-is}

@@ -6,15 +6,14 @@ use mathlib.Core.Logic.{_≢_, _⊎_, inl, inr, ⊎-elim}
 use Prim.Native.Nat.{ℕ, zero, suc, _*_, _^_, _<_, _≤_}
 use native.Mathlib.Omega.{arith}
 use borrow.Author.Tests.{eqb-true, leb-true, eq-eqb, ne-eqb, lt-leb, le-ltb}
-use lib.Dec.{eqb, leb, ltb}
+use lib.Dec.{eqb, leb}
 use lib.ListN.{length, getD, take, drop, replicate, length-drop}
 use lib.Seq.{take-at, length-take-le}
 use denote.Ref.{now}
 use Rattle.answer.specs.Answer.{answerNumber}
-use Rattle.bits.specs.Bits.{bitsOf, shiftAll}
+use Rattle.bits.specs.Bits.{shiftAll}
 use Rattle.bits.specs.Bits.Laws.{heard-whole, length-bits}
 use Rattle.bits.specs.Each.{each, each-true}
-use Rattle.bits.specs.Tests.{neither}
 use Rattle.board.specs.Board as board
 use Rattle.board.specs.Board.{Left, lineStep, newLine, begun, emptyBoard}
 use Rattle.board.specs.Board.Laws as board-laws
@@ -22,7 +21,6 @@ use Rattle.board.specs.Board.Visits.{across-own, new-visits, new-stays}
 use Rattle.board.specs.declared.Board.{Board}
 use Rattle.board.specs.declared.Shown.{Shown}
 use Rattle.record.specs.declared.Tag.{Tag}
-use Rattle.select.specs.declared.Mode.{Mode}
 use Rattle.select.specs.Select.{modeOf}
 use Rattle.tag.specs.Tag.{newTag}
 use Rattle.promises.specs.Overdrive.{NoLong, NoShort, slotsIn, Starts, ButSpeed}
@@ -30,19 +28,18 @@ use Rattle.promises.specs.Overdrive.Proof.{overdrive}
 use Rattle.promises.specs.Ranges.{isRom, isConfiguration, inRange, Fit}
 use Rattle.promises.specs.Ranges.Laws.{fit-sound, fit-run, reached-fit}
 use Rattle.promises.specs.Runs as alone
-use Rattle.promises.specs.Runs.{State, Event, Kept, Always, ticksOf}
-use Rattle.promises.specs.Runs.Laws.{Sound, always-append, number-run, number-after, reached-run, sound-run}
-use Rattle.promises.specs.Sentences.Choosing.{rom, Choosing}
+use Rattle.promises.specs.Runs.{State, Event, Always}
+use Rattle.promises.specs.Runs.Laws.{always-append, number-run, number-after, reached-run, sound-run}
 use Rattle.promises.specs.Sentences.Choosing.Proof.{choosing}
 use Rattle.promises.specs.Sentences.Events as events
 use Rattle.promises.specs.Sentences.Events.{numberIn, ownNumber, clearTag}
 use Rattle.promises.specs.Sentences.Events.Proof as events-proof
 use Rattle.promises.specs.Sentences.Events.Proof.{number-accepts}
-use Rattle.promises.specs.Several.{Line, countOf, tagAt, Seven, LineEvent, codeOf, placeOf, readingOf, leaves, after, Accepts, Ran, run, AllAccepted, hears, heard, OneTag, twice, numbersOf, isMany, lineNumber, firstFault, newNumber, Defined, outcome, noBoard, Reached, FitLine, Valid, LineDemand1, Unselected, LeftAlone, Elsewhere, Resumes, stretches, Each, TouchesNoOther}
+use Rattle.promises.specs.Several.{Line, countOf, tagAt, Seven, LineEvent, leaves, after, Accepts, run, AllAccepted, hears, heard, OneTag, twice, isMany, lineNumber, firstFault, newNumber, Defined, outcome, noBoard, Reached, FitLine, Valid, LineDemand1, Unselected, LeftAlone, Elsewhere, Resumes, stretches, Each, TouchesNoOther}
 use Rattle.promises.specs.Several.Aside.{Opens, Listens, left-aside, reset-listens, stretch-aside, reset-plain}
-use Rattle.promises.specs.Several.Laws.{Remains, stateOf, event-remains, event-tag, run-remains, run-tag, run-line}
+use Rattle.promises.specs.Several.Laws.{stateOf, event-remains, event-tag, run-remains, run-tag, run-line}
 use Rattle.promises.specs.Several.Numbers.{line-number, new-number, twice-not, twice-none}
-use Rattle.promises.specs.Words.{if_then_else_, among, low, numberOf, speedOf, Chosen}
+use Rattle.promises.specs.Words.{if_then_else_, among, low, numberOf, Chosen}
 use Rattle.promises.specs.Words.Laws.{low-is}
 
 -- ---- a tag on the line is a tag

@@ -9,7 +9,7 @@ use Rattle.answer.specs.Answer.{answerNumber}
 use Rattle.board.specs.declared.Board.{Board}
 use Rattle.board.specs.declared.Shown.{Shown}
 use Rattle.board.specs.Board.{lineStep}
-use Rattle.console.specs.Console.{Reply, readingOf}
+use Rattle.console.specs.Console.{readingOf}
 use Rattle.console.specs.Console.Laws.{group-byte}
 use Rattle.shed.specs.Shed.{replyOf}
 

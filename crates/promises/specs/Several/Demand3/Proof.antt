@@ -3,17 +3,17 @@
 use mathlib.Core.Path.{_≡_, refl, sym, ap, subst, _∙_}
 use mathlib.Core.Bool.{Bool, true, false}
 use mathlib.Core.List.{List, [], _∷_, _++_, flatMap}
-use Prim.Native.Nat.{ℕ, _<_, _≤_}
+use Prim.Native.Nat.{ℕ, _<_}
 use lib.Dec.{eqb}
 use lib.ListN.{drop, getD}
-use Rattle.bits.specs.Each.{each, each-same}
+use Rattle.bits.specs.Each.{each-same}
 use Rattle.promises.specs.Demand3 as demand3
 use Rattle.promises.specs.Demand3.{Premises, Conclusions}
 use Rattle.promises.specs.Demand3.Proof as demand3-proof
 use Rattle.promises.specs.Runs as alone
 use Rattle.promises.specs.Runs.{State, Event}
-use Rattle.promises.specs.Several.{Line, LineEvent, FitLine, countOf, tagAt, run, AllAccepted, hears, heard, bitOf, lineOf, Valid}
-use Rattle.promises.specs.Several.Demand3.{Alike, AllAlike, TagBegins, LinePremises, LineDemand3}
+use Rattle.promises.specs.Several.{Line, LineEvent, countOf, tagAt, run, hears, heard, bitOf, lineOf, Valid}
+use Rattle.promises.specs.Several.Demand3.{Alike, AllAlike, LinePremises, LineDemand3}
 use Rattle.promises.specs.Several.Laws.{run-tag, run-line}
 use Rattle.promises.specs.Several.Proof.{AllValid, valid-accepted}
 use Rattle.promises.specs.Words.{if_then_else_}

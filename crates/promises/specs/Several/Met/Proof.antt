@@ -6,30 +6,29 @@ use mathlib.Core.List.{List, [], _∷_, _++_, map, flatMap}
 use mathlib.Core.Logic.{_≢_, inl}
 use Prim.Native.Nat.{ℕ, zero, suc, _<_}
 use native.Mathlib.Omega.{arith}
-use lib.ListN.{length, getD, take, drop, replicate, length-append}
+use lib.ListN.{getD, take, drop, replicate, length-append}
 use lib.Seq.{take-at, drop-at, take-all}
 use Rattle.bits.specs.Bits.{bitOf, bitsOf, slotsOf, shiftIn}
 use Rattle.bits.specs.Bytes.{bytes-of}
 use Rattle.crc.specs.Crc.{taps, crcBit, crcBits, mask8, crc8Of, goodCrc}
 use Rattle.exchange.specs.declared.Exchange.{Exchange}
-use Rattle.exchange.specs.Exchange.{asks, slotOf, afterShort}
+use Rattle.exchange.specs.Exchange.{asks, slotOf}
 use Rattle.image.specs.Fields.{wordAt}
 use Rattle.image.specs.Stored.{storedRun}
 use Rattle.bus.specs.declared.Control.{Control}
-use Rattle.field.specs.Field.{copies, fieldAsks, judged, gatheredBit, afterReading, afterControlling}
+use Rattle.field.specs.Field.{fieldAsks, judged, gatheredBit, afterReading, afterControlling}
 use Rattle.memory.specs.Hear.{commandStage, confirmed, heardWhole, heardBit}
 use Rattle.memory.specs.Memory as memory
 use Rattle.select.specs.Select as select
 use Rattle.select.specs.Select.{modeOf, speedIn}
 use Rattle.bus.specs.declared.Guarded.{Guarded}
 use Rattle.bus.specs.declared.Stage.{Stage}
-use Rattle.record.specs.Record.{goodNumber, goodCode, Outcome}
-use Rattle.tag.specs.Tag.{newTag}
-use Rattle.tag.specs.Tag.Laws.{new-made, length-new}
+use Rattle.record.specs.Record.{goodNumber}
+use Rattle.tag.specs.Tag.Laws.{length-new}
 use Rattle.promises.specs.Demand3.{EndsField, Alike, NoPassword, NoneCarried, AlarmsAgree, Premises}
 use Rattle.promises.specs.Demand3.Needed.{Sometime}
 use Rattle.promises.specs.Demand3.Needed.Keys.{HasKeys, keys-stored, none-of-keys}
-use Rattle.promises.specs.Demand3.Needed.Owner.{Owned, Ready, stored, stored-owned, ready, is-ready, waiting}
+use Rattle.promises.specs.Demand3.Needed.Owner.{Ready, stored, stored-owned, ready, is-ready, waiting}
 use Rattle.promises.specs.Demand3.Needed.Stranger.{wrong, field, fieldSeen, ends-seen, readings-differ}
 use Rattle.promises.specs.Demand3.Needed.Tags.{pad, number, fresh, madeWith, with-owned, fresh-off, fresh-idle, first, second, first-prepared, second-prepared}
 use Rattle.promises.specs.Demand3.Needed.Walk.{harmless, asksHarmless, denied, harmlessAll, deniedAll, NoneOf, denies-run, harmless-premises}
@@ -43,7 +42,7 @@ use Rattle.promises.specs.Runs.Laws.{always-map, all-slots}
 use Rattle.promises.specs.Sentences.Events.{clearTag}
 use Rattle.promises.specs.Several.{Line, LineEvent, FitLine, tagAt, heard, Unselected, Elsewhere}
 use Rattle.promises.specs.Several.Demand3 as line
-use Rattle.promises.specs.Several.Demand3.{AllAlike, TagBegins, LinePremises}
+use Rattle.promises.specs.Several.Demand3.{AllAlike, TagBegins}
 use Rattle.promises.specs.Several.Met.{LineMet}
 use Rattle.promises.specs.Several.Aside.{Listens, stretch-aside}
 use Rattle.promises.specs.Words as words
