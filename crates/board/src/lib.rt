@@ -115,7 +115,7 @@ pub fn event(block: &mut [u8], board: Board, code: u8, place: u8, reading: u16) 
 }
 
 // How many of the seven records a count speaks of.
-fn places(count: u8) -> usize
+pub fn places(count: u8) -> usize
     ensures { λ r. ⌜ r ≡ placesOf count ⌝ }
 {
     if count <= 7 { count as usize } else { 7 }
@@ -128,7 +128,7 @@ fn both(a: bool, b: bool) -> bool
 }
 
 // Whether two of these are the same.
-fn same_number(numbers: &[u64]) -> bool
+pub fn same_number(numbers: &[u64]) -> bool
     ensures { λ r. ⌜ r ≡ sameNumber (length (now (numbers .entry))) (λ i. getD (now (numbers .entry)) i 0) ⌝ }
 {
     let mut i = 0;
@@ -156,7 +156,7 @@ fn stands_in(numbers: &[u64], number: u64) -> bool
 }
 
 // The answer to an event, once it is known whether two numbers are the same and all records keep to their ranges.
-fn judge(
+pub fn judge(
     count: u8,
     size: usize,
     same: bool,
@@ -192,7 +192,7 @@ fn judge(
 }
 
 // The answer to a new line.
-fn judge_new(size: usize, numbers: &[u64], codes: &[u8]) -> Answer
+pub fn judge_new(size: usize, numbers: &[u64], codes: &[u8]) -> Answer
     ensures { λ r. ⌜ r ≡ newJudged size (now (numbers .entry)) (now (codes .entry)) ⌝ }
 {
     if !is_count(numbers.len()) {

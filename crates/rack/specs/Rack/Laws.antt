@@ -1,0 +1,120 @@
+-- Laws of a line's records as bytes: a record's place, how they are asked and read one by one, and how they are packed one behind the
+-- other. Assumes nothing.
+use mathlib.Core.Path.{_≡_, refl, sym, ap, _∙_}
+use mathlib.Core.Bool.{Bool, true, false, and-eq-true-iff}
+use mathlib.Core.List.{List, [], _∷_, _++_, append-nil}
+use mathlib.Core.Logic.{_≢_, dite}
+use Prim.Native.Nat.{ℕ, zero, suc, _+_, _*_, _-_, _≤_, _<_, min}
+use native.Mathlib.Decide.{decLe}
+use native.Mathlib.Nat.{add-suc}
+use native.Mathlib.Omega.{arith}
+use borrow.Author.Tests.{eqb-true, eq-eqb, ne-eqb}
+use lib.Dec.{eqb}
+use lib.ListN.{length, getD, set, take, drop, length-take, length-drop, take-append-drop, drop-of-length-le}
+use lib.Seq.{sets, take-all, take-set-le, drop-set-add, length-take-le}
+use Rattle.bits.specs.Each.{each, each-true, each-false, each-holds}
+use Rattle.bits.specs.Stores.{sets-join, sets-past}
+use Rattle.board.specs.declared.Board.{Board}
+use Rattle.board.specs.Board.{tagAt}
+use Rattle.board.specs.Board.Laws.{placesOf, places-some}
+use Rattle.packing.specs.Packing.{packed, isPacked, unpacked}
+use Rattle.record.specs.Record.{freshTag}
+use Rattle.rack.specs.Rack.{recordAt, isRack, seven, wholeIn, rackFrom}
+
+-- ---- places
+
+-- the part that the code lends
+pub part-is : (records : List ℕ) (place : ℕ) → take (place * 80 + 80 - place * 80) (drop (place * 80) records) ≡ recordAt records place
+unfolding recordAt
+part-is records place = let n : place * 80 + 80 - place * 80 ≡ 80 = omega arith in ap (λ (n : ℕ). take n (drop (place * 80) records)) n
+
+pub length-record : (records : List ℕ) (place : ℕ) → (place + 1) * 80 ≤ length records → length (recordAt records place) ≡ 80
+unfolding recordAt
+length-record records place has = length-take-le 80 (drop (place * 80) records) (omega (arith, length-drop (place * 80) records, has))
+
+-- a record that is not wholly there stands for that of all zeros
+pub none-there : (records : List ℕ) (place : ℕ) → length records < (place + 1) * 80 → unpacked (recordAt records place) ≡ freshTag 0 0
+unfolding recordAt unpacked
+none-there records place short =
+    let part : length (take 80 (drop (place * 80) records)) ≢ 80 =
+    λ whole. omega (arith, whole, length-take 80 (drop (place * 80) records), length-drop (place * 80) records, short) in
+    rw (ne-eqb _ 80 part)
+
+-- one of seven
+pub seven-at : {A : Type 0} (f : ℕ → A) (d : A) (i : ℕ) → i < 7 → getD (seven f) i d ≡ f i
+seven-at f d zero h = refl
+seven-at f d (suc zero) h = refl
+seven-at f d (suc (suc zero)) h = refl
+seven-at f d (suc (suc (suc zero))) h = refl
+seven-at f d (suc (suc (suc (suc zero)))) h = refl
+seven-at f d (suc (suc (suc (suc (suc zero))))) h = refl
+seven-at f d (suc (suc (suc (suc (suc (suc zero)))))) h = refl
+seven-at f d (suc (suc (suc (suc (suc (suc (suc i))))))) h = absurd (omega (arith, h))
+
+-- ---- reading
+
+pub whole-some : (size count : ℕ) → wholeIn size count ≤ 7
+unfolding wholeIn
+whole-some size count = omega (arith, places-some count)
+
+-- ---- asking
+
+module _ (records : List ℕ) (count : ℕ) where
+  pub rack-size : length records ≢ count * 80 → isRack records count ≡ false
+  unfolding isRack
+  rack-size other = rw (ne-eqb (length records) (count * 80) other)
+
+  pub rack-bad : length records ≡ count * 80 → (i : ℕ) → i < count → isPacked (recordAt records i) ≡ false → isRack records count ≡ false
+  unfolding isRack
+  rack-bad size i h bad = rw (eq-eqb (length records) (count * 80) size) (each-false count _ i h bad)
+
+  pub rack-good : length records ≡ count * 80 → ((i : ℕ) → i < count → isPacked (recordAt records i) ≡ true) → isRack records count ≡ true
+  unfolding isRack
+  rack-good size all = rw (eq-eqb (length records) (count * 80) size) (each-true count _ all)
+
+-- what is asked of them
+pub record Racked (records : List ℕ) (count : ℕ) : Type 0 where
+  pub size : length records ≡ count * 80
+  pub own : (i : ℕ) → i < count → isPacked (recordAt records i) ≡ true
+
+pub racked : (records : List ℕ) (count : ℕ) → isRack records count ≡ true → Racked records count
+unfolding isRack
+racked records count e =
+    let a = and-eq-true-iff (eqb (length records) (count * 80)) _ .0 e in
+    record { size = eqb-true (length records) (count * 80) (a .0); own = each-holds count _ (a .1) }
+
+-- ---- packing
+
+-- a run of stores in what lies behind a place
+sets-behind : (l : List ℕ) (n i : ℕ) (vs : List ℕ) → take n l ++ sets (drop n l) i vs ≡ sets l (n + i) vs
+sets-behind l n i [] = take-append-drop n l
+sets-behind l n i (v ∷ vs) =
+    rw (← drop-set-add n l i v, ← take-set-le n l (n + i) v (omega arith))
+    (sets-behind (set l (n + i) v) n (suc i) vs ∙ ap (λ (k : ℕ). sets (set l (n + i) v) k vs) (add-suc n i))
+
+-- from a place on, or from the end where there is none, in the part that the code lends
+pub sets-from : (l : List ℕ) (at from : ℕ) → from ≡ min at (length l) → (vs : List ℕ) →
+    take from l ++ (sets (take (length l - from) (drop from l)) 0 vs ++ drop (length l - from) (drop from l)) ≡ sets l at vs
+sets-from l at from clipped vs =
+    let all : length (drop from l) ≤ length l - from = omega (arith, length-drop from l) in
+    rw (take-all (length l - from) (drop from l) all, drop-of-length-le (drop from l) all, append-nil (sets (drop from l) 0 vs))
+    (sets-behind l from 0 vs
+    ∙ dite (decLe at (length l)) (λ there. let n : from + 0 ≡ at = omega (arith, clipped, there) in ap (λ (k : ℕ). sets l k vs) n)
+    (λ past. sets-past l (from + 0) vs (omega (arith, clipped, past)) ∙ sym (sets-past l at vs (omega (arith, past)))))
+
+pub rack-next : (records : List ℕ) (board : Board) (place count : ℕ) → place < count → length (packed (tagAt board place)) ≡ 80 →
+    sets (sets records (place * 80) (packed (tagAt board place))) ((place + 1) * 80) (rackFrom board (place + 1) (count - (place + 1)))
+    ≡ sets records (place * 80) (rackFrom board place (count - place))
+unfolding rackFrom
+rack-next records board place count h size =
+    let first = packed (tagAt board place) in
+    let rest = rackFrom board (place + 1) (count - (place + 1)) in
+    let left : count - place ≡ suc (count - (place + 1)) = omega (arith, h) in
+    let next : (place + 1) * 80 ≡ place * 80 + length first = omega (arith, size) in
+    ap (λ (n : ℕ). sets (sets records (place * 80) first) n rest) next
+    ∙ sym (sets-join records (place * 80) first rest)
+    ∙ sym (ap (λ (n : ℕ). sets records (place * 80) (rackFrom board place n)) left)
+
+pub rack-over : (board : Board) (place count : ℕ) → count ≤ place → rackFrom board place (count - place) ≡ []
+unfolding rackFrom
+rack-over board place count h = let none : count - place ≡ 0 = omega (arith, h) in ap (rackFrom board place) none
