@@ -1,1 +1,2 @@
 pub mod Bagtag
+pub mod Line

@@ -7,13 +7,17 @@ use lib.Dec.{eqb}
 use lib.ListN.{length, take, drop}
 use Rattle.bits.specs.Each.{each}
 use Rattle.board.specs.declared.Board.{Board}
-use Rattle.board.specs.Board.{tagAt, sameNumber}
+use Rattle.board.specs.Board.{tagAt, isCount, sameNumber}
 use Rattle.board.specs.Board.Laws.{placesOf}
 use Rattle.image.specs.Fields.{wordAt}
 use Rattle.packing.specs.Packing.{packed, Fits, isPacked, unpacked}
 pub mod Laws
 
 -- ---- places: that at place i has bytes 80 i to 80 i + 79
+
+-- as many bytes as the records of so many tags have, and a line can have so many
+unfoldable pub hasRoom : ℕ → ℕ → Bool
+hasRoom size count = isCount count && eqb size (count * 80)
 
 -- the record at a place, or what there is of it
 unfoldable pub recordAt : List ℕ → ℕ → List ℕ

@@ -7,7 +7,20 @@ ghost use mathlib.Core.Path.{_≡_};
 ghost use Prim.Native.Nat.{min};
 ghost use lib.Seq.{sets};
 ghost use Rattle.packing.specs.Packing.{packed, Fits, unpacked};
-ghost use Rattle.rack.specs.Rack.{recordAt, isRack, boardIn, numberHeld, wholeIn, sameHeld, rackOf, AllFit};
+ghost use Rattle.rack.specs.Rack.{hasRoom, recordAt, isRack, boardIn, numberHeld, wholeIn, sameHeld, rackOf, AllFit};
+
+// Whether a line can have so many tags, and so many bytes are their records.
+pub fn has_room(size: usize, count: usize) -> bool
+    ensures { λ r. ⌜ r ≡ hasRoom size count ⌝ }
+{
+    if count < 1 {
+        return false;
+    }
+    if 7 < count {
+        return false;
+    }
+    size == count * RECORD
+}
 
 // Whether these bytes are so many records side by side, each as some record packs to.
 pub fn is_rack(records: &[u8], count: u8) -> bool

@@ -15,11 +15,11 @@ use lib.Seq.{sets, take-all, take-set-le, drop-set-add, length-take-le}
 use Rattle.bits.specs.Each.{each, each-true, each-false, each-holds}
 use Rattle.bits.specs.Stores.{sets-join, sets-past}
 use Rattle.board.specs.declared.Board.{Board}
-use Rattle.board.specs.Board.{tagAt}
+use Rattle.board.specs.Board.{tagAt, isCount}
 use Rattle.board.specs.Board.Laws.{placesOf, places-some}
 use Rattle.packing.specs.Packing.{packed, isPacked, unpacked}
 use Rattle.record.specs.Record.{freshTag}
-use Rattle.rack.specs.Rack.{recordAt, isRack, seven, wholeIn, rackFrom}
+use Rattle.rack.specs.Rack.{hasRoom, recordAt, isRack, seven, wholeIn, rackFrom}
 
 -- ---- places
 
@@ -39,6 +39,16 @@ none-there records place short =
     let part : length (take 80 (drop (place * 80) records)) ≢ 80 =
     λ whole. omega (arith, whole, length-take 80 (drop (place * 80) records), length-drop (place * 80) records, short) in
     rw (ne-eqb _ 80 part)
+
+-- what is asked where there is room
+pub record Room (size count : ℕ) : Type 0 where
+  pub few : isCount count ≡ true
+  pub whole : size ≡ count * 80
+
+pub room : (size count : ℕ) → hasRoom size count ≡ true → Room size count
+unfolding hasRoom
+room size count e =
+    let a = and-eq-true-iff (isCount count) _ .0 e in record { few = a .0; whole = eqb-true size (count * 80) (a .1) }
 
 -- one of seven
 pub seven-at : {A : Type 0} (f : ℕ → A) (d : A) (i : ℕ) → i < 7 → getD (seven f) i d ≡ f i
