@@ -12,6 +12,10 @@ uint32_t bagtag_event_64(uint8_t *image, uint64_t image_len, uint8_t *record, ui
                          uint16_t reading, uint8_t *line);
 uint32_t bagtag_events_64(uint8_t *image, uint64_t image_len, uint8_t *record, uint64_t record_len, const uint16_t *words,
                           uint64_t words_len, uint8_t *replies, uint64_t replies_len, uint64_t *done);
+uint32_t bagtag_line_new_64(uint8_t *block, uint64_t block_len, uint8_t *records, uint64_t records_len, const uint64_t *numbers,
+                            uint64_t count, const uint8_t *codes, uint64_t codes_len);
+uint32_t bagtag_line_event_64(uint8_t *block, uint64_t block_len, uint8_t *records, uint64_t records_len, uint8_t count,
+                              uint8_t code, uint8_t place, uint16_t reading, uint8_t *line);
 uint32_t bagtag_list_64(const uint8_t *dump, uint64_t dump_len, int32_t *temperatures, uint64_t places, uint8_t *head,
                         uint64_t head_len);
 
@@ -35,6 +39,18 @@ uint8_t bagtag_events(uint8_t *image, size_t image_len, uint8_t *record, size_t 
 
     *done = (size_t)all_done;
     return answer;
+}
+
+uint8_t bagtag_line_new(uint8_t *block, size_t block_len, uint8_t *records, size_t records_len, const uint64_t *numbers,
+                        size_t count, const uint8_t *codes, size_t codes_len)
+{
+    return (uint8_t)bagtag_line_new_64(block, block_len, records, records_len, numbers, count, codes, codes_len);
+}
+
+uint8_t bagtag_line_event(uint8_t *block, size_t block_len, uint8_t *records, size_t records_len, uint8_t count, uint8_t code,
+                          uint8_t place, uint16_t reading, uint8_t *line)
+{
+    return (uint8_t)bagtag_line_event_64(block, block_len, records, records_len, count, code, place, reading, line);
 }
 
 uint8_t bagtag_list(const uint8_t *dump, size_t dump_len, int32_t *temperatures, size_t places, uint8_t *head, size_t head_len)

@@ -16,8 +16,12 @@
  *   the record    BAGTAG_RECORD bytes: everything else, packed as told below
  *
  * bagtag_new fills both. Any event may change both; keep them together, as they were left by the same call, over whatever may end
- * the power (examples/c/firmware.c shows how, and what a failure within a call can cost). Bytes need no alignment; words,
+ * the power (examples/c/firmware.c shows how, and what a failure within a call can cost). Bytes need no alignment; words, numbers,
  * temperatures and done are aligned as their types ask.
+ *
+ * Several tags on one line are two pieces of memory too: a block, in which the images stand one behind the other, and the records
+ * likewise. Places count from 0: the tag at place i has BAGTAG_IMAGE bytes of the block from BAGTAG_IMAGE * i on, and BAGTAG_RECORD
+ * bytes of the records from BAGTAG_RECORD * i on, as the calls for one tag have them. bagtag_line_new fills both.
  *
  * LENGTHS are size_t, as everywhere in C. On a 32-bit chip the functions behind this header take 64 bits for each, and chip/ brings
  * a thin wrapper, compiled into the library there, that hides it: the declarations below hold on every machine that the library is
@@ -42,13 +46,15 @@ extern "C" {
 #define BAGTAG_PLACES 8192
 /* A dump: 258 lines of 73 characters. */
 #define BAGTAG_DUMP 18834
+/* The most tags on one line. */
+#define BAGTAG_LINE_TAGS 7
 
 /* ---- answers: BAGTAG_OK, or why a call was refused */
 
 #define BAGTAG_OK 0             /* done */
 #define BAGTAG_BAD_EVENT 1      /* an event code above 4, or a list's word that is no event */
 #define BAGTAG_BAD_READING 2    /* a tick with a reading above 2047 */
-#define BAGTAG_BAD_IMAGE 3      /* an image of another length than BAGTAG_IMAGE */
+#define BAGTAG_BAD_IMAGE 3      /* an image of another length than BAGTAG_IMAGE, or a block than that for each tag of a line */
 #define BAGTAG_BAD_NUMBER 4     /* a registration number whose low byte is not 41h, or whose CRC-8 is wrong */
 #define BAGTAG_BAD_CODE 5       /* a configuration code that is not 40h or 60h */
 #define BAGTAG_BAD_RECORD 6     /* a record of another length or version, coded as no record is, or out of its ranges */
@@ -58,9 +64,11 @@ extern "C" {
 #define BAGTAG_DUMP_CLEARED 10  /* a dump in which MEMCLR is 1: nothing was logged since a Clear */
 #define BAGTAG_DUMP_COUNTS 11   /* a dump whose registers can't be those of a mission */
 #define BAGTAG_FEW_PLACES 12    /* fewer places than entries held, or a head that is too short */
+#define BAGTAG_SAME_NUMBER 13   /* two tags of a line with the same number */
+#define BAGTAG_BAD_PLACE 14     /* a line of no tag, or of more than BAGTAG_LINE_TAGS, or a tick for a place that has none */
 #define BAGTAG_FEW_REPLIES 17   /* fewer reply bytes than words */
 
-/* ---- events, for bagtag_event */
+/* ---- events, for bagtag_event and bagtag_line_event */
 
 #define BAGTAG_SLOT_LOW 0       /* a slot in which the master holds the line low */
 #define BAGTAG_SLOT_FREE 1      /* a slot in which the master lets the line go */
@@ -102,6 +110,29 @@ uint8_t bagtag_event(uint8_t *image, size_t image_len, uint8_t *record, size_t r
  */
 uint8_t bagtag_events(uint8_t *image, size_t image_len, uint8_t *record, size_t record_len, const uint16_t *words,
                       size_t words_len, uint8_t *replies, size_t replies_len, size_t *done);
+
+/*
+ * A new line: at each place a new tag, with a registration number and a code as bagtag_new takes them. `block_len` is BAGTAG_IMAGE
+ * times `count`, `records_len` BAGTAG_RECORD times `count`, and there is a code for each number.
+ *
+ * Answers 0; or 14 (also for another number of codes), 3, 13, 6 (for the records' length alone), then 4 or 5 for the first place
+ * whose number or code is bad; the first that applies. A refusal leaves the block as it was. Where `count` is 1 to BAGTAG_LINE_TAGS
+ * and the records have their length, each becomes that of all zeros, which bagtag_new tells of; else they stay as they were. The
+ * events of such a line are refused with 13, since its numbers are the same, those of a single tag with 6.
+ */
+uint8_t bagtag_line_new(uint8_t *block, size_t block_len, uint8_t *records, size_t records_len, const uint64_t *numbers,
+                        size_t count, const uint8_t *codes, size_t codes_len);
+
+/*
+ * One event of a line of `count` tags. A slot or a reset goes to all of them, and `*line` becomes 0 if the master or one of them
+ * holds the line low. A tick goes to the tag at `place`, and `*line` is 1; `place` and `reading` count for BAGTAG_TICK alone.
+ *
+ * Answers 0; or 14, 3, 13, 6, 1, 2, the first that applies. 13 compares the numbers as they stand in the records that are wholly
+ * there, good or not; 6 is for the records' length, and for any of them that is none: so one broken record refuses every event, a
+ * tick for another tag too. A refusal changes no byte of block and records, and `*line` is 1.
+ */
+uint8_t bagtag_line_event(uint8_t *block, size_t block_len, uint8_t *records, size_t records_len, uint8_t count, uint8_t code,
+                          uint8_t place, uint16_t reading, uint8_t *line);
 
 /*
  * The listing of a dump, which is a text of BAGTAG_DUMP characters. `temperatures` gets those of the entries that the log holds, in

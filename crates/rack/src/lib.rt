@@ -90,11 +90,12 @@ fn number_at(records: &[u8], place: u8) -> u64
     image::word(records, place as usize * RECORD + 24, 8)
 }
 
-// How many of the records that a count speaks of are wholly there.
+// How many of the records that a count speaks of are wholly there. More than seven count for seven, so that no chip divides 64 bits.
 fn whole(size: usize, count: u8) -> usize
     ensures { λ r. ⌜ r ≡ wholeIn size count ⌝ }
 {
-    least(board::places(count), size / RECORD)
+    let few = least(size, 7 * RECORD) as u16;
+    least(board::places(count), (few / 80) as usize)
 }
 
 fn least(a: usize, b: usize) -> usize

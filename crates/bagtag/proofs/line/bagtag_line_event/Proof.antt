@@ -1,4 +1,4 @@
--- `bagtag::bagtag_line_event` meets its contract. Assumes nothing.
+-- `bagtag::line::bagtag_line_event` meets its contract. Assumes nothing.
 use mathlib.Core.Bool.{true, false≢true}
 use mathlib.Core.Path.{_≡_, refl, sym, ap, _∙_}
 use Prim.Native.Nat.{ℕ, _*_}
@@ -11,8 +11,8 @@ use Rattle.board.specs.declared.Shown.{Shown}
 use Rattle.rack.specs.Rack.{isRack, boardIn, AllFit}
 use Rattle.rack.specs.Rack.Laws.{racked}
 use Rattle.bagtag.specs.Line.Laws.{line-done, line-refused, line-judged, done-counted, fills}
-use Rattle.bagtag.proofs.bagtag_line_event.Statement.{statement}
-use Rattle.bagtag.proofs.bagtag_line_event.Tie as tie
+use Rattle.bagtag.proofs.line.bagtag_line_event.Statement.{statement}
+use Rattle.bagtag.proofs.line.bagtag_line_event.Tie as tie
 
 -- bytes that are not a line's records
 returns : tie.Need-returns

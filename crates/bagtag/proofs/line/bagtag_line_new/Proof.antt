@@ -1,4 +1,4 @@
--- `bagtag::bagtag_line_new` meets its contract. Assumes nothing.
+-- `bagtag::line::bagtag_line_new` meets its contract. Assumes nothing.
 use mathlib.Core.Bool.{true, false≢true}
 use mathlib.Core.Path.{_≡_, refl, sym, _∙_}
 use native.Mathlib.Omega.{arith}
@@ -10,8 +10,8 @@ use Rattle.rack.specs.Rack.{hasRoom}
 use Rattle.rack.specs.Rack.Laws.{room}
 use Rattle.bagtag.specs.Line.{asked}
 use Rattle.bagtag.specs.Line.Laws.{new-made, new-short, fills}
-use Rattle.bagtag.proofs.bagtag_line_new.Statement.{statement}
-use Rattle.bagtag.proofs.bagtag_line_new.Tie as tie
+use Rattle.bagtag.proofs.line.bagtag_line_new.Statement.{statement}
+use Rattle.bagtag.proofs.line.bagtag_line_new.Tie as tie
 
 -- there is room for the records
 has : (c : tie.Else1) → let a = c .before .before .before .before .before .before .args in hasRoom (length (a .records .now)) (length (a .numbers .now)) ≡ true

@@ -1,8 +1,8 @@
--- `bagtag::short_number` meets its contract. Assumes nothing.
+-- `bagtag::line::short_number` meets its contract. Assumes nothing.
 use borrow.Author.Tests.{ne-eqb}
 use Rattle.bagtag.specs.Line.{shortNumber}
-use Rattle.bagtag.proofs.short_number.Statement.{statement}
-use Rattle.bagtag.proofs.short_number.Tie as tie
+use Rattle.bagtag.proofs.line.short_number.Statement.{statement}
+use Rattle.bagtag.proofs.line.short_number.Tie as tie
 
 pub short-number-spec : {M : Type 1} → statement M
 unfolding shortNumber
