@@ -45,6 +45,13 @@ class Event(NamedTuple):
     is_ahead_wrong: int  # whether it does not hold what the header says of the slot by BAGTAG_SENDS
 
 
+class LineEvent(NamedTuple):
+    answer: int
+    changed: int
+    line: int
+    is_alone_wrong: int  # whether its tags would have been left otherwise one by one
+
+
 class Words(NamedTuple):
     answer: int
     changed: int
@@ -102,6 +109,21 @@ class Calls:
     def list(self, dump, places, head):
         self.add(b"d", struct.pack("<III", len(dump), places, head) + dump, 2 + 4 * places + head,
                  lambda gave: Listed(*gave[:2], struct.unpack(f"<{places}i", gave[2:2 + 4 * places]), gave[2 + 4 * places:]))
+
+    def new_line(self, numbers, codes):
+        """Image and record are the line's block and its records."""
+        self.add(b"L", struct.pack(f"<II{len(numbers)}Q", len(numbers), len(codes), *numbers) + bytes(codes), 2,
+                 lambda gave: Made(*gave))
+
+    def line_events(self, tags, groups):
+        """Four bytes each. What they give stays as it comes: answers, changes, lines, alone."""
+        count = len(groups) // 4
+        self.add(b"E", struct.pack("<BI", tags, count) + groups[:4 * count], 4 * count,
+                 lambda gave: [gave[part::4] for part in range(4)])
+
+    def line_event(self, tags, code, place, reading):
+        self.add(b"E", struct.pack("<BIBBBB", tags, 1, code, place, reading >> 8, reading & 0xFF), 4,
+                 lambda gave: LineEvent(*gave))
 
     def give_image(self):
         self.add(b"I", b"", self.image_length, bytes)

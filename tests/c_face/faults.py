@@ -8,12 +8,13 @@ import collections
 import shutil
 from typing import NamedTuple
 
-from . import cases, listed, played, programs, throws
+from . import cases, lines, listed, played, programs, throws
 from .builds import CRATE, EXAMPLES, TOP, Builds, kit
 from .face import guarded
 
-SESSIONS, DUMPS, THROWS = 28, 18, 4000
+SESSIONS, LINES, DUMPS, THROWS = 28, 12, 18, 4000
 BAGTAG = ("crates/bagtag/src/lib.rt",)
+LINE = ("crates/bagtag/src/line.rt", "crates/rack/src/lib.rt")
 PACKING = ("crates/packing/src/lib.rt", "crates/packing/src/parts.rt", "crates/packing/src/codes.rt")
 HEADER = ("include/bagtag.h",)
 FIRMWARE = ("firmware.c",)
@@ -57,6 +58,15 @@ FAULTS = (
     Fault("entries held and first entry change places in a head", BAGTAG, {
         "(head, 8, 4, listing.held": "(head, 0, 4, listing.held", "(head, 12, 4, ": "(head, 8, 4, ",
         "(head, 0, 4, listing.held": "(head, 12, 4, listing.held"}),
+    Fault("a line's records packed the other way round", LINE, {
+        "pack_from(records, i * RECORD, ": "pack_from(records, (end - 1 - i) * RECORD, "}),
+    Fault("records that are no line's refused with 6, whatever their numbers", LINE, {
+        "block.len(), same, false, ": "block.len(), same && false, false, "}),
+    Fault("the number compared of a record that is not wholly there", LINE, {"(few / 80)": "((few + 40) / 80)"}),
+    Fault("the records of a refused new line left", LINE, {
+        "    rack::pack(records, board);\n": "    if made.count != 0 { rack::pack(records, board); }\n"}),
+    Fault("the records of a line not packed after a tick", LINE, {
+        "    rack::pack(records, left);\n": "    if code != 3 { rack::pack(records, left); }\n"}),
     Fault("the bits of Read ROM not counted as sent", HEADER, {"(record)[BAGTAG_AT_CHOOSING] == 2 || ": ""}),
     Fault("the bits after a Copy not counted as sent", HEADER, {" || (record)[BAGTAG_AT_STAGE] == 4": ""}),
     Fault("the master's choice of a Search counted as sent", HEADER, {
@@ -116,9 +126,12 @@ def library_checks(home, fault, play, seed):
     edit(home, fault)
     driver, reached = Builds(home, top=home).driver(), []
     yield from guarded("cases", cases.checks(driver))
+    yield from guarded("cases of a line", lines.cases(driver))
     yield from played.checks(driver, play, seed, range(SESSIONS), reached)
+    yield from lines.sessions(driver, seed, range(LINES))
     yield from listed.checks([driver], seed, range(DUMPS), collections.Counter())
     yield from throws.checks([driver], seed, THROWS, reached, collections.Counter())
+    yield from lines.throws([driver], seed, THROWS // 10, reached, collections.Counter())
 
 
 def firmware_checks(home, fault, play, list_):

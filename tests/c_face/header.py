@@ -119,8 +119,8 @@ def linked(builds):
     folder.mkdir()
     kit.call([archiver, "x", "--output", folder, builds.library])
     defined, wanted = map(set().union, *map(elf.symbols, folder.iterdir()))
-    yield "the library has the header's four functions and no other", defined == {
-        f"{CRATE}_{name}" for name in ("new", "event", "events", "list")}, defined
+    yield "the library has the header's six functions and no other", defined == {
+        f"{CRATE}_{name}" for name in ("new", "event", "events", "line_new", "line_event", "list")}, defined
     yield "it needs memcpy and memset alone", wanted - defined == {"memcpy", "memset"}, wanted - defined
     _, _, variables = elf.sizes(*folder.iterdir())
     yield "it has no variables", variables == 0, variables

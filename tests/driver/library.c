@@ -12,11 +12,16 @@
  *   e  a count in four bytes, and for each event its code and the reading, high byte first: bagtag_event
  *   w  counts of words and of reply bytes, four bytes each, and the words: bagtag_events
  *   d  a length, the number of places and the length of the head, four bytes each, and the dump: bagtag_list
+ *   L  counts of registration numbers and of codes, four bytes each, the numbers and the codes: bagtag_line_new; image and record
+ *      are the line's block and its records
+ *   E  how many tags, a byte; a count in four bytes, and for each event its code, its place and the reading, high byte first:
+ *      bagtag_line_event
  *   I  the image is given out as far as it is lent, R: the record
  *
  * Standard output: of each call the answer, and by their bits which pieces it changed (enum piece, and BESIDE); for an event
- * then the line and whether what the header says by BAGTAG_SENDS did not hold of the slot; for a list of events `done` in eight
- * bytes and all reply bytes; for a dump all places and the whole head. What a call must fill has UNUSED bytes before it.
+ * then the line and whether what the header says by BAGTAG_SENDS did not hold of the slot, or whether the tags of a line would have
+ * been left otherwise one by one; for a list of events `done` in eight bytes and all reply bytes; for a dump all places and the whole
+ * head. What a call must fill has UNUSED bytes before it.
  */
 #include <stdbool.h>
 #include <stdio.h>
@@ -34,7 +39,7 @@
 #define MARK 0xA5
 #define UNUSED 0x77
 
-/* `RESULT` is a line or a `done`. */
+/* `RESULT` is a line or a `done`. A line's numbers are in `WORDS`, its codes in `DUMP`. */
 enum piece { IMAGE, RECORD, WORDS, REPLIES, DUMP, PLACES, HEAD, RESULT, PIECES };
 
 static struct {
@@ -247,6 +252,81 @@ static bool list_dump(void)
     return true;
 }
 
+/* ---- the calls to a line */
+
+static bool make_line(void)
+{
+    uint32_t counts[2];
+    uint8_t gave[2];
+
+    if (!take(counts, sizeof counts) || counts[0] > LONGEST / 8 || counts[1] > LONGEST ||
+        !take(pieces[WORDS].kept, 8 * counts[0]) || !take(pieces[DUMP].kept, counts[1]))
+        return false;
+    begin_call();
+    pieces[WORDS].length = 8 * counts[0];
+    pieces[DUMP].length = counts[1];
+    gave[0] = bagtag_line_new(lend(IMAGE), pieces[IMAGE].length, lend(RECORD), pieces[RECORD].length, lend(WORDS), counts[0],
+                              lend(DUMP), counts[1]);
+    gave[1] = take_back(IMAGE) | take_back(RECORD) | take_back(WORDS) | take_back(DUMP);
+    give(gave, sizeof gave);
+    return true;
+}
+
+/* What a line is before an event, and what its tags make of it one by one. */
+static uint8_t alone_images[ROOM], alone_records[ROOM];
+
+static void keep_line(void)
+{
+    memcpy(alone_images, pieces[IMAGE].kept, pieces[IMAGE].length);
+    memcpy(alone_records, pieces[RECORD].kept, pieces[RECORD].length);
+}
+
+/* Whether an accepted event has left what it leaves of each tag alone, and the bit that they make together. */
+static bool is_alone_right(uint8_t tags, const uint8_t *event, uint8_t line)
+{
+    uint8_t together = 1, own;
+
+    for (uint8_t place = 0; place < tags; place++) {
+        if (event[0] == BAGTAG_TICK && place != event[1])
+            continue;
+        if (bagtag_event(alone_images + BAGTAG_IMAGE * place, BAGTAG_IMAGE, alone_records + BAGTAG_RECORD * place, BAGTAG_RECORD,
+                         event[0], (uint16_t)(event[2] << 8 | event[3]), &own) != BAGTAG_OK)
+            return false;
+        together &= own;
+    }
+    return line == together && memcmp(alone_images, pieces[IMAGE].kept, pieces[IMAGE].length) == 0 &&
+           memcmp(alone_records, pieces[RECORD].kept, pieces[RECORD].length) == 0;
+}
+
+static void play_to_line(uint8_t tags, const uint8_t *event)
+{
+    uint8_t gave[4];
+
+    begin_call();
+    keep_line();
+    gave[0] = bagtag_line_event(lend(IMAGE), pieces[IMAGE].length, lend(RECORD), pieces[RECORD].length, tags, event[0], event[1],
+                                (uint16_t)(event[2] << 8 | event[3]), lend_unused(RESULT, 1));
+    gave[1] = take_back(IMAGE) | take_back(RECORD) | take_back(RESULT);
+    gave[2] = pieces[RESULT].kept[0];
+    gave[3] = gave[0] == BAGTAG_OK && !is_alone_right(tags, event, gave[2]);
+    give(gave, sizeof gave);
+}
+
+static bool play_line(void)
+{
+    uint32_t count;
+    uint8_t tags, event[4];
+
+    if (!take(&tags, sizeof tags) || !take(&count, sizeof count))
+        return false;
+    for (; count > 0; count--) {
+        if (!take(event, sizeof event))
+            return false;
+        play_to_line(tags, event);
+    }
+    return true;
+}
+
 /* ---- commands */
 
 static bool take_length(enum piece p)
@@ -280,6 +360,8 @@ static bool command(char letter)
     case 'e': return play_events();
     case 'w': return play_words();
     case 'd': return list_dump();
+    case 'L': return make_line();
+    case 'E': return play_line();
     case 'I': return give_piece(IMAGE);
     case 'R': return give_piece(RECORD);
     default: return false;

@@ -22,7 +22,10 @@ use Rattle.hex.proofs as hex
 use Rattle.dump.proofs as dump
 use Rattle.dock.proofs as dock
 use Rattle.text.proofs as text
+use Rattle.console.proofs as console
+use Rattle.board.proofs as board
 use Rattle.packing.proofs as packing
+use Rattle.rack.proofs as rack
 use Rattle.bagtag.proofs as bagtag
 
 -- A contract speaks of lifetimes, arguments, result and what is lent at exit. Two outcomes that it allows for the same arguments look
@@ -153,17 +156,38 @@ pub record Determinacy : Type 2 where
   pub text-put-head : Sole text.put_head.Reads.Post (λ k r e. with r (now (e .0)))
   pub text-put-entries : Sole text.put_entries.Reads.Post (λ k r e. with r (now (e .0)))
   pub text-twos-complement : Sole text.twos_complement.Reads.Post (λ k r e. r)
+  -- console
+  pub console-move-begun : Sole console.move_begun.Reads.Post (λ k r e. with r (now (e .0)))
+  pub console-reading-of : Sole console.reading_of.Reads.Post (λ k r e. r)
+  pub console-put-answer : Sole console.put_answer.Reads.Post (λ k r e. with r (now (e .0)))
+  pub console-refused : Sole console.refused.Reads.Post (λ k r e. r)
+  -- board
+  pub board-new : Sole board.new.Reads.Post (λ k r e. with r (now (e .0)))
+  pub board-event : Sole board.event.Reads.Post (λ k r e. with r (now (e .0)))
+  pub board-places : Sole board.places.Reads.Post (λ k r e. r)
+  pub board-same-number : Sole board.same_number.Reads.Post (λ k r e. r)
+  pub board-judge : Sole board.judge.Reads.Post (λ k r e. r)
+  pub board-judge-new : Sole board.judge_new.Reads.Post (λ k r e. r)
   -- packing
   pub packing-pack : Sole packing.pack.Reads.Post (λ k r e. now (e .0))
   pub packing-put : Sole packing.put.Reads.Post (λ k r e. now (e .0))
   pub packing-is-packed : Sole packing.is_packed.Reads.Post (λ k r e. r)
   pub packing-unpack : Sole packing.unpack.Reads.Post (λ k r e. r)
+  -- rack
+  pub rack-has-room : Sole rack.has_room.Reads.Post (λ k r e. r)
+  pub rack-is-rack : Sole rack.is_rack.Reads.Post (λ k r e. r)
+  pub rack-unpack : Sole rack.unpack.Reads.Post (λ k r e. r)
+  pub rack-same-number : Sole rack.same_number.Reads.Post (λ k r e. r)
+  pub rack-pack : Sole rack.pack.Reads.Post (λ k r e. now (e .0))
   -- bagtag
   pub bagtag-new : Sole bagtag.bagtag_new.Reads.Post (λ k r e. with r (with (now (e .0)) (now (e .1 .0))))
   pub bagtag-event : Sole bagtag.bagtag_event.Reads.Post
       (λ k r e. with r (with (now (e .0)) (with (now (e .1 .0)) (now (e .1 .1 .1 .1 .0)))))
   pub bagtag-events : Sole bagtag.bagtag_events.Reads.Post
       (λ k r e. with r (with (now (e .0)) (with (now (e .1 .0)) (with (now (e .1 .1 .1 .0)) (now (e .1 .1 .1 .1 .0))))))
+  pub bagtag-line-new : Sole bagtag.line.bagtag_line_new.Reads.Post (λ k r e. with r (with (now (e .0)) (now (e .1 .0))))
+  pub bagtag-line-event : Sole bagtag.line.bagtag_line_event.Reads.Post
+      (λ k r e. with r (with (now (e .0)) (with (now (e .1 .0)) (now (e .1 .1 .1 .1 .1 .1 .0)))))
   pub bagtag-list : Sole bagtag.bagtag_list.Reads.Post (λ k r e. with r (with (now (e .1 .0)) (now (e .1 .1 .0))))
 
 -- ---- each contract is one equation for each thing that a caller sees
@@ -271,10 +295,25 @@ determinacy =
       text-put-head = λ k a r s e f p q. pair (p .0 ∙ sym (q .0)) (p .1 ∙ sym (q .1));
       text-put-entries = λ k a r s e f p q. pair (p .0 ∙ sym (q .0)) (p .1 ∙ sym (q .1));
       text-twos-complement = λ k a r s e f p q. p ∙ sym q;
+      console-move-begun = λ k a r s e f p q. pair (p .0 ∙ sym (q .0)) (p .1 ∙ sym (q .1));
+      console-reading-of = λ k a r s e f p q. p ∙ sym q;
+      console-put-answer = λ k a r s e f p q. pair (p .0 ∙ sym (q .0)) (p .1 ∙ sym (q .1));
+      console-refused = λ k a r s e f p q. p ∙ sym q;
+      board-new = λ k a r s e f p q. pair (p .0 ∙ sym (q .0)) (p .1 ∙ sym (q .1));
+      board-event = λ k a r s e f p q. pair (p .0 ∙ sym (q .0)) (p .1 ∙ sym (q .1));
+      board-places = λ k a r s e f p q. p ∙ sym q;
+      board-same-number = λ k a r s e f p q. p ∙ sym q;
+      board-judge = λ k a r s e f p q. p ∙ sym q;
+      board-judge-new = λ k a r s e f p q. p ∙ sym q;
       packing-pack = λ k a r s e f p q. p .0 ∙ sym (q .0);
       packing-put = λ k a r s e f p q. p .0 ∙ sym (q .0);
       packing-is-packed = λ k a r s e f p q. p ∙ sym q;
       packing-unpack = λ k a r s e f p q. p ∙ sym q;
+      rack-has-room = λ k a r s e f p q. p ∙ sym q;
+      rack-is-rack = λ k a r s e f p q. p ∙ sym q;
+      rack-unpack = λ k a r s e f p q. p ∙ sym q;
+      rack-same-number = λ k a r s e f p q. p ∙ sym q;
+      rack-pack = λ k a r s e f p q. p .0 ∙ sym (q .0);
       bagtag-new = λ k a r s e f p q. pair (p .0 ∙ sym (q .0)) (pair (p .1 .0 ∙ sym (q .1 .0)) (p .1 .1 .0 ∙ sym (q .1 .1 .0)));
       bagtag-event = λ k a r s e f p q.
           pair (p .0 ∙ sym (q .0))
@@ -284,6 +323,11 @@ determinacy =
           (pair (p .1 .0 ∙ sym (q .1 .0))
           (pair (p .1 .1 .0 ∙ sym (q .1 .1 .0))
           (pair (p .1 .1 .1 .0 ∙ sym (q .1 .1 .1 .0)) (p .1 .1 .1 .1 .0 ∙ sym (q .1 .1 .1 .1 .0)))));
+      bagtag-line-new = λ k a r s e f p q.
+          pair (p .0 ∙ sym (q .0)) (pair (p .1 .0 ∙ sym (q .1 .0)) (p .1 .1 .0 ∙ sym (q .1 .1 .0)));
+      bagtag-line-event = λ k a r s e f p q.
+          pair (p .0 ∙ sym (q .0))
+          (pair (p .1 .0 ∙ sym (q .1 .0)) (pair (p .1 .1 .0 ∙ sym (q .1 .1 .0)) (p .1 .1 .1 .0 ∙ sym (q .1 .1 .1 .0))));
       bagtag-list = λ k a r s e f p q.
           pair (p .0 ∙ sym (q .0)) (pair (p .1 .0 ∙ sym (q .1 .0)) (p .1 .1 .0 ∙ sym (q .1 .1 .0)));
     }
