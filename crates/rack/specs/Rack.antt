@@ -12,6 +12,7 @@ use Rattle.board.specs.Board.Laws.{placesOf}
 use Rattle.image.specs.Fields.{wordAt}
 use Rattle.packing.specs.Packing.{packed, Fits, isPacked, unpacked}
 pub mod Laws
+pub mod Back
 
 -- ---- places: that at place i has bytes 80 i to 80 i + 79
 

@@ -1,26 +1,28 @@
--- Which way a call to a line goes, and that its records fill the bytes that they are packed into. Assumes nothing.
+-- Which way a call to a line goes, what its number is, and what a refusal leaves. Assumes nothing.
 use mathlib.Core.Path.{_≡_, refl, sym, ap, _∙_}
-use mathlib.Core.Bool.{Bool, true, false}
+use mathlib.Core.Bool.{Bool, true, false, _&&_, _||_}
 use mathlib.Core.List.{List}
-use mathlib.Core.Logic.{_≢_}
-use Prim.Native.Nat.{ℕ, zero, suc, _+_, _*_, _<_}
+use mathlib.Core.Logic.{_≢_, dite}
+use Prim.Native.Nat.{ℕ}
+use native.Mathlib.Decide.{ℕ-discrete}
 use native.Mathlib.Omega.{arith}
-use borrow.Author.Tests.{eq-eqb, ne-eqb}
+use borrow.Author.Tests.{eqb-true, eq-eqb, ne-eqb}
 use lib.Dec.{eqb}
-use lib.ListN.{length, length-append}
-use lib.Seq.{sets}
+use lib.ListN.{length}
 use Rattle.answer.specs.Answer.{answerNumber}
+use Rattle.answer.specs.Answer.Laws.{accepted-is}
 use Rattle.bits.specs.Bits.{digit}
-use Rattle.bits.specs.Choose.{if_then_else_, choice}
-use Rattle.bits.specs.Stores.{sets-whole}
+use Rattle.bits.specs.Choose.{if_then_else_, either, choice}
+use Rattle.bits.specs.Each.{each}
 use Rattle.board.specs.declared.Board.{Board}
-use Rattle.board.specs.Board.{tagAt, isCount, Left, judgedBy, judged, lineStep, newJudged, newLine}
+use Rattle.board.specs.Board.{tagAt, isCount, Left, judgedBy, judged, lineStep, newJudged, emptyBoard, newLine}
 use Rattle.board.specs.Board.Kept.{kept, step-answer}
-use Rattle.board.specs.Board.Laws.{placesOf, places-counted, passed}
-use Rattle.packing.specs.Packing.{packed, Fits}
-use Rattle.packing.specs.Packing.Laws.{length-packed}
-use Rattle.rack.specs.Rack.{hasRoom, isRack, boardIn, sameHeld, rackFrom, rackOf, AllFit}
-use Rattle.bagtag.specs.Line.{lineMade, shortNumber, newLineCall, lineStepped, lineCall}
+use Rattle.board.specs.Board.Laws.{passed, judged-by}
+use Rattle.rack.specs.Rack.{hasRoom, isRack, boardIn, sameHeld, rackOf}
+use Rattle.rack.specs.Rack.Back.{same-racked}
+use Rattle.record.specs.declared.Tag.{Tag}
+use Rattle.record.specs.Record.{tagInRange}
+use Rattle.bagtag.specs.Line.{NewLine, lineMade, shortNumber, newLineCall, lineStepped, lineCall}
 
 -- ---- a new line
 
@@ -36,15 +38,65 @@ module _ (block records numbers codes : List ℕ) where
   unfolding newLineCall
   new-short none = rw none
 
+-- the answer of a new line is what is judged
+new-answer : (block numbers codes : List ℕ) → newLine block numbers codes .shown .answer ≡ newJudged (length block) numbers codes
+unfolding newLine
+new-answer block numbers codes =
+    either (λ (left : Left). left .shown .answer ≡ newJudged (length block) numbers codes)
+    (eqb (answerNumber (newJudged (length block) numbers codes)) 0) (λ e. sym (accepted-is _ (eqb-true _ 0 e))) (λ e. refl)
+
+-- one that is refused leaves the block, and has no records but those of all zeros
+new-zeros : (block numbers codes : List ℕ) → answerNumber (newLine block numbers codes .shown .answer) ≢ 0 →
+    (newLine block numbers codes .block ≡ block) × (newLine block numbers codes .shown .board .tags ≡ emptyBoard 0 .tags)
+unfolding newLine
+new-zeros block numbers codes =
+    choice
+    (λ (left : Left). answerNumber (left .shown .answer) ≢ 0 → (left .block ≡ block) × (left .shown .board .tags ≡ emptyBoard 0 .tags))
+    (eqb (answerNumber (newJudged (length block) numbers codes)) 0) (λ fault. absurd (fault refl)) (λ fault. (refl, refl))
+
+module _ (block records numbers codes : List ℕ) where
+  pub new-number : newLineCall block records numbers codes .number
+      ≡ (if hasRoom (length records) (length numbers) then answerNumber (newJudged (length block) numbers codes)
+      else shortNumber (answerNumber (newJudged (length block) numbers codes)))
+  unfolding newLineCall
+  new-number = by (hasRoom (length records) (length numbers))
+    where
+      by : (room : Bool) →
+          (if room then lineMade (length numbers) (newLine block numbers codes)
+          else record { number = shortNumber (answerNumber (newJudged (length block) numbers codes)); block = block; records = records }) .number
+          ≡ (if room then answerNumber (newJudged (length block) numbers codes) else shortNumber (answerNumber (newJudged (length block) numbers codes)))
+      by true = ap answerNumber (new-answer block numbers codes)
+      by false = refl
+
+  pub new-refused : newLineCall block records numbers codes .number ≢ 0 →
+      (newLineCall block records numbers codes .block ≡ block)
+      × (newLineCall block records numbers codes .records
+      ≡ (if hasRoom (length records) (length numbers) then rackOf (emptyBoard (length numbers)) else records))
+  unfolding newLineCall emptyBoard
+  new-refused = by (hasRoom (length records) (length numbers))
+    where
+      call : Bool → NewLine
+      call room =
+          if room then lineMade (length numbers) (newLine block numbers codes)
+          else record { number = shortNumber (answerNumber (newJudged (length block) numbers codes)); block = block; records = records }
+
+      by : (room : Bool) → call room .number ≢ 0 →
+          (call room .block ≡ block) × (call room .records ≡ (if room then rackOf (emptyBoard (length numbers)) else records))
+      by true fault =
+          let left = new-zeros block numbers codes fault in
+          (left .0, ap (λ (tags : List Tag). rackOf (record { tags = tags; count = length numbers })) (left .1))
+      by false fault = (refl, refl)
+
 -- ---- an event
 
--- a refusal leaves the line high
-refused-high : (block : List ℕ) (board : Board) (code place reading : ℕ) →
-    answerNumber (lineStep block board code place reading .shown .answer) ≢ 0 → lineStep block board code place reading .shown .line ≡ true
+-- a refusal leaves the block, and the line high
+refused-left : (block : List ℕ) (board : Board) (code place reading : ℕ) →
+    answerNumber (lineStep block board code place reading .shown .answer) ≢ 0 →
+    (lineStep block board code place reading .block ≡ block) × (lineStep block board code place reading .shown .line ≡ true)
 unfolding lineStep
-refused-high block board code place reading =
-    choice (λ (left : Left). answerNumber (left .shown .answer) ≢ 0 → left .shown .line ≡ true)
-    (eqb (answerNumber (judged (length block) board code place reading)) 0) (λ fault. absurd (fault refl)) (λ fault. refl)
+refused-left block board code place reading =
+    choice (λ (left : Left). answerNumber (left .shown .answer) ≢ 0 → (left .block ≡ block) × (left .shown .line ≡ true))
+    (eqb (answerNumber (judged (length block) board code place reading)) 0) (λ fault. absurd (fault refl)) (λ fault. (refl, refl))
 
 module _ (block records : List ℕ) (count code place reading : ℕ) where
   abbrev step : Left
@@ -65,7 +117,7 @@ module _ (block records : List ℕ) (count code place reading : ℕ) where
       lineCall block records count code place reading
       ≡ record { number = answerNumber (step .shown .answer); block = step .block; records = records; line = 1 }
   unfolding lineCall
-  line-refused own fault = rw (own, ne-eqb _ 0 fault, refused-high block (boardIn records count) code place reading fault)
+  line-refused own fault = rw (own, ne-eqb _ 0 fault, refused-left block (boardIn records count) code place reading fault .1)
 
   -- it has as many tags as it had, and a line can have so many
   pub done-counted : answerNumber (step .shown .answer) ≡ 0 → (isCount (step .shown .board .count) ≡ true) × (step .shown .board .count ≡ count)
@@ -87,20 +139,40 @@ module _ (block records : List ℕ) (count code place reading : ℕ) where
   unfolding lineCall
   line-judged bad = rw bad
 
--- ---- records
+  -- the records are good if they are a line's, and keep to their ranges
+  pub line-number : lineCall block records count code place reading .number
+      ≡ answerNumber
+      (judgedBy count (length block) (sameHeld records count) (isRack records count && each count (λ i. tagInRange (tagAt (boardIn records count) i)))
+      code place reading)
+  unfolding lineCall boardIn
+  line-number = by (isRack records count) refl
+    where
+      board : Board
+      board = boardIn records count
 
--- those of a line have its length
-rack-length : (board : Board) (place left : ℕ) → ((i : ℕ) → i < place + left → Fits (tagAt board i)) → length (rackFrom board place left) ≡ left * 80
-unfolding rackFrom
-rack-length board place zero fit = refl
-rack-length board place (suc left) fit =
-    length-append (packed (tagAt board place)) (rackFrom board (place + 1) left)
-    ∙ rw (length-packed (tagAt board place) (fit place (omega arith) .size), rack-length board (place + 1) left (λ i h. fit i (omega (arith, h)))) (omega arith)
+      ranged : Bool
+      ranged = each count (λ i. tagInRange (tagAt board i))
 
--- and fill the bytes that they are packed into
-pub fills : (records : List ℕ) (board : Board) → isCount (board .count) ≡ true → length records ≡ board .count * 80 → AllFit board →
-    sets records 0 (rackOf board) ≡ rackOf board
-unfolding rackOf
-fills records board few size fit =
-    sets-whole records (rackOf board)
-    (rack-length board 0 (placesOf (board .count)) (λ i h. fit i (omega (arith, h))) ∙ ap (λ (n : ℕ). n * 80) (places-counted (board .count) few) ∙ sym size)
+      by : (b : Bool) → isRack records count ≡ b →
+          lineCall block records count code place reading .number
+          ≡ answerNumber (judgedBy count (length block) (sameHeld records count) (b && ranged) code place reading)
+      by true own =
+          rw own
+          (ap answerNumber
+          (step-answer block board code place reading
+          ∙ sym (judged-by (length block) board (sameHeld records count) ranged code place reading (λ few. (same-racked records count own few, refl)))))
+      by false bad = rw bad
+
+  pub line-left : lineCall block records count code place reading .number ≢ 0 →
+      (lineCall block records count code place reading .block ≡ block) × (lineCall block records count code place reading .records ≡ records)
+      × (lineCall block records count code place reading .line ≡ 1)
+  line-left = by (isRack records count) refl
+    where
+      by : (b : Bool) → isRack records count ≡ b → lineCall block records count code place reading .number ≢ 0 →
+          (lineCall block records count code place reading .block ≡ block) × (lineCall block records count code place reading .records ≡ records)
+          × (lineCall block records count code place reading .line ≡ 1)
+      by true own fault =
+          dite (ℕ-discrete (answerNumber (step .shown .answer)) 0)
+          (λ none. absurd (fault (rw (line-done own none) none)))
+          (λ some. rw (line-refused own some) (refused-left block (boardIn records count) code place reading some .0, refl, refl))
+      by false bad fault = rw (line-judged bad) (refl, refl, refl)

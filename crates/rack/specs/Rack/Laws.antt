@@ -16,7 +16,7 @@ use Rattle.bits.specs.Each.{each, each-true, each-false, each-holds}
 use Rattle.bits.specs.Stores.{sets-join, sets-past}
 use Rattle.board.specs.declared.Board.{Board}
 use Rattle.board.specs.Board.{tagAt, isCount}
-use Rattle.board.specs.Board.Laws.{placesOf, places-some}
+use Rattle.board.specs.Board.Laws.{places-some}
 use Rattle.packing.specs.Packing.{packed, isPacked, unpacked}
 use Rattle.record.specs.Record.{freshTag}
 use Rattle.rack.specs.Rack.{hasRoom, recordAt, isRack, seven, wholeIn, rackFrom}

@@ -9,8 +9,9 @@ use Rattle.bits.specs.Bits.{digit}
 use Rattle.board.specs.Board.{lineStep}
 use Rattle.board.specs.declared.Shown.{Shown}
 use Rattle.rack.specs.Rack.{isRack, boardIn, AllFit}
+use Rattle.rack.specs.Rack.Back.{fills}
 use Rattle.rack.specs.Rack.Laws.{racked}
-use Rattle.bagtag.specs.Line.Laws.{line-done, line-refused, line-judged, done-counted, fills}
+use Rattle.bagtag.specs.Line.Laws.{line-done, line-refused, line-judged, done-counted}
 use Rattle.bagtag.proofs.line.bagtag_line_event.Statement.{statement}
 use Rattle.bagtag.proofs.line.bagtag_line_event.Tie as tie
 
@@ -67,7 +68,7 @@ returns-3 c =
         rw (e, ← c .before .before .before .before .before .before .before .before .before .before .before .unpack .ensures) (c .before .before .before .before .before .before .before .before .before .before .event .ensures .1),
         (
           rw (e, pack .ensures .0, board)
-              (fills (a .records .now) _ (counted .0) (racked _ _ good .size ∙ ap (λ (n : ℕ). n * 80) (sym (counted .1))) fit),
+              (fills _ (counted .0) fit (a .records .now) (racked _ _ good .size ∙ ap (λ (n : ℕ). n * 80) (sym (counted .1)))),
           (
             rw e (c .digit .ensures ∙ ap (λ (s : Shown). digit (s .line)) (shown-is (c .before .before .before .before .before .before .before .before .before .before))),
             (λ k. c .before .before .before .before .before .before .before .before .before .before .before .before .before .before .before .before .before .slice-known2 .given k .fits, λ own none. fit),

@@ -7,9 +7,10 @@ use borrow.Author.Tests.{not-true, not-false}
 use lib.ListN.{length}
 use Rattle.board.specs.Board.Laws.{counted}
 use Rattle.rack.specs.Rack.{hasRoom}
+use Rattle.rack.specs.Rack.Back.{fills}
 use Rattle.rack.specs.Rack.Laws.{room}
 use Rattle.bagtag.specs.Line.{asked}
-use Rattle.bagtag.specs.Line.Laws.{new-made, new-short, fills}
+use Rattle.bagtag.specs.Line.Laws.{new-made, new-short}
 use Rattle.bagtag.proofs.line.bagtag_line_new.Statement.{statement}
 use Rattle.bagtag.proofs.line.bagtag_line_new.Tie as tie
 
@@ -38,7 +39,7 @@ returns-2 c =
       (
         rw e (new .ensures .1),
         (
-          rw (e, ← new .ensures .0, pack .ensures .0) (fills (a .records .now) _ (r .few) (r .whole) (pack .ensures .1)),
+          rw (e, ← new .ensures .0, pack .ensures .0) (fills _ (r .few) (pack .ensures .1) (a .records .now) (r .whole)),
           λ sized. rw (← new .ensures .0) (pack .ensures .1),
         ),
       ),
