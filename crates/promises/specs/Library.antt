@@ -38,6 +38,8 @@ use Rattle.promises.specs.Sentences.Events.{numberIn, ownNumber}
 use Rattle.promises.specs.Words.{if_then_else_, markIn, speedIn}
 pub mod Record
 pub mod Proof
+pub mod Line
+pub mod LineProof
 
 -- ---- a record in its bytes
 

@@ -60,7 +60,7 @@ use Rattle.promises.specs.Words.{if_then_else_}
 -- ---- a new tag
 
 -- "packs the record of all zeros": the version, and then zeros
-zeros-packed : packed (sentences.clearTag 0 0) ≡ 1 ∷ replicate 79 0
+pub zeros-packed : packed (sentences.clearTag 0 0) ≡ 1 ∷ replicate 79 0
 unfolding packed fieldsOf singles wordsOf pairs eights bytesOf lowFirst
 zeros-packed = refl
 

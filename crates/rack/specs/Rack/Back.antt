@@ -93,9 +93,9 @@ module _ (board : Board) (few : isCount (board .count) ≡ true) (fit : AllFit b
       let tags =
       ext-getD (freshTag 0 0) (seven (λ i. unpacked (recordAt (rackOf board) i))) (board .tags) (sym size)
       (λ i h.
-        seven-at (λ k. unpacked (recordAt (rackOf board) k)) (freshTag 0 0) i h
-        ∙ dite (decLt i (board .count)) (there i) (λ no. past i (omega (arith, no)))
-        ∙ tag-read board i) in
+      seven-at (λ k. unpacked (recordAt (rackOf board) k)) (freshTag 0 0) i h
+      ∙ dite (decLt i (board .count)) (there i) (λ no. past i (omega (arith, no)))
+      ∙ tag-read board i) in
       λ i. record { tags = tags i; count = board .count }
 
 -- ---- the numbers

@@ -1,0 +1,409 @@
+-- The library's calls to a line are the board's, through the bytes of its records. Assumes nothing.
+use mathlib.Core.Bool.{Bool, true, false, not, _&&_, _||_, false≢true}
+use mathlib.Core.List.{List, [], _∷_, _++_}
+use mathlib.Core.Logic.{_≢_, dite}
+use mathlib.Core.Path.{_≡_, refl, sym, ap, subst, _∙_}
+use Prim.Native.Nat.{ℕ, zero, suc, _+_, _*_, _/_, _≤_, _<_, min}
+use native.Mathlib.Decide.{decLt, ℕ-discrete}
+use native.Mathlib.Omega.{arith}
+use borrow.Author.Tests.{eqb-true, eq-eqb, ne-eqb, not-true, not-false}
+use lib.Dec.{eqb, leb, ltb}
+use lib.ListN.{length, getD, replicate, length-replicate, getD-replicate, List·getD-eq-default}
+use denote.Ref.{now}
+use Rattle.answer.specs.Answer.{answerNumber}
+use Rattle.answer.specs.declared.Answer.{Answer}
+use Rattle.bagtag.proofs.line.bagtag_line_event.Reads as bagtag-line-event
+use Rattle.bagtag.proofs.line.bagtag_line_new.Reads as bagtag-line-new
+use Rattle.bagtag.specs.Line.{NewLine, asked, shortNumber, newLineCall, LineEvent, lineCall}
+use Rattle.bagtag.specs.Line.Laws.{new-made, new-number, new-refused, line-number, line-left}
+use Rattle.bits.specs.Bits.{digit}
+use Rattle.bits.specs.Each.{each, each-true, each-holds, each-fails, each-same}
+use Rattle.board.specs.declared.Board.{Board}
+use Rattle.board.specs.Board.{tagAt, isCount, namesNone, isHigh, sameNumber, judgedBy, Left, lineStep, newFault, newJudged, emptyBoard, newLine}
+use Rattle.board.specs.Board.Kept.{kept, kept-new, step-answer}
+use Rattle.board.specs.Board.Laws as board-laws
+use Rattle.board.specs.Board.Laws.{placesOf, places-counted, counted}
+use Rattle.board.specs.Board.Numbers.{same-found, same-none}
+use Rattle.image.specs.Fields.{wordAt}
+use Rattle.packing.specs.Packing.{packed, isPacked, unpacked}
+use Rattle.rack.specs.Rack.{hasRoom, recordAt, isRack, boardIn, numberHeld, wholeIn, sameHeld, rackFrom, rackOf, AllFit}
+use Rattle.rack.specs.Rack.Back.{length-rack, record-rack, own-rack, rack-back, tag-racked}
+use Rattle.rack.specs.Rack.Laws.{room}
+use Rattle.record.specs.declared.Tag.{Tag}
+use Rattle.record.specs.Record.{freshTag, goodNumber, goodCode, tagInRange}
+use Rattle.select.specs.Select.{modeOf}
+use Rattle.promises.specs.Library.{wordIn, digitOf, isRecord}
+use Rattle.promises.specs.Library.Line.{every, some, twice, isLine, recordIn, romIn, twiceIn, zerosOf, faultFrom, newLineNumber, lineNumber, Lined, LibraryLine}
+use Rattle.promises.specs.Library.Proof.{zeros-packed}
+use Rattle.promises.specs.Library.Record.{fits-of, holds-of}
+use Rattle.promises.specs.Ranges.{isRom, isConfiguration, inRange}
+use Rattle.promises.specs.Ranges.Laws.{range-is}
+use Rattle.promises.specs.Sentences.Events.{numberIn, ownNumber, clearTag}
+use Rattle.promises.specs.Sentences.Events.Proof.{numbered, rom-is}
+use Rattle.promises.specs.Words.{if_then_else_}
+
+-- ---- places
+
+every-is : (n : ℕ) (f : ℕ → Bool) → every n f ≡ each n f
+unfolding every
+every-is zero f = refl
+every-is (suc n) f = ap (λ (b : Bool). f n && b) (every-is n f)
+
+some-is : (n : ℕ) (f : ℕ → Bool) → some n f ≡ not (each n (λ i. not (f i)))
+unfolding some
+some-is zero f = refl
+some-is (suc n) f = by (f n) (some-is n f)
+  where
+    by : (b : Bool) → some n f ≡ not (each n (λ i. not (f i))) → (b || some n f) ≡ not (not b && each n (λ i. not (f i)))
+    by true e = refl
+    by false e = e
+
+-- where the test passes, if it does
+record Found (n : ℕ) (f : ℕ → Bool) : Type 0 where
+  pub at : ℕ
+  pub below : at < n
+  pub passes : f at ≡ true
+
+some-found : (n : ℕ) (f : ℕ → Bool) → some n f ≡ true → Found n f
+some-found n f e =
+    let fails = each-fails n (λ i. not (f i)) (not-true _ (sym (some-is n f) ∙ e)) in
+    record { at = fails .at; below = fails .below; passes = not-false _ (fails .fails) }
+
+some-none : (n : ℕ) (f : ℕ → Bool) → some n f ≡ false → (i : ℕ) → i < n → f i ≡ false
+some-none n f e i h = not-true _ (each-holds n (λ k. not (f k)) (not-false _ (sym (some-is n f) ∙ e)) i h)
+
+twice-is : (n : ℕ) (number : ℕ → ℕ) → twice n number ≡ sameNumber n number
+twice-is n number = by (twice n number) refl
+  where
+    own : twice n number ≡ false → (i j : ℕ) → j < i → i < n → number i ≡ number j → ⊥
+    own e i j below h same =
+        false≢true
+        (sym (some-none i (λ k. eqb (number i) (number k)) (some-none n (λ k. some k (λ m. eqb (number k) (number m))) e i h) j below)
+        ∙ eq-eqb (number i) (number j) same)
+
+    by : (b : Bool) → twice n number ≡ b → twice n number ≡ sameNumber n number
+    by true e =
+        let first = some-found n (λ i. some i (λ j. eqb (number i) (number j))) e in
+        let second = some-found (first .at) (λ j. eqb (number (first .at)) (number j)) (first .passes) in
+        e ∙ sym (same-found n number (first .at) (second .at) (first .below) (omega (arith, first .below, second .below))
+        (λ same. absurd (omega (arith, same, second .below))) (eqb-true _ _ (second .passes)))
+    by false e =
+        e ∙ sym (same-none n number (λ i j hi hj same.
+        dite (decLt j i) (λ lt. absurd (own e i j lt hi same))
+        (λ ge. dite (decLt i j) (λ lt. absurd (own e j i lt hj (sym same))) (λ le. omega (arith, ge, le)))))
+
+-- ---- an event
+
+twice-in : (records : List ℕ) (count : ℕ) → isCount count ≡ true → sameHeld records count ≡ twiceIn records count
+unfolding sameHeld wholeIn numberHeld wordAt
+twice-in records count few =
+    ap (λ (n : ℕ). sameNumber (min n (length records / 80)) (numberHeld records)) (places-counted count few)
+    ∙ sym (twice-is (min count (length records / 80)) (romIn records))
+
+-- two tests at once
+each-both : (n : ℕ) (f g : ℕ → Bool) → (each n f && each n g) ≡ each n (λ i. f i && g i)
+each-both zero f g = refl
+each-both (suc n) f g = by (f n) (g n) (each n f) (each n g) ∙ ap (λ (b : Bool). (f n && g n) && b) (each-both n f g)
+  where
+    by : (a b c d : Bool) → ((a && c) && (b && d)) ≡ ((a && b) && (c && d))
+    by true true c d = refl
+    by true false true d = refl
+    by true false false d = refl
+    by false b c d = refl
+
+and-assoc : (a b c : Bool) → ((a && b) && c) ≡ (a && (b && c))
+and-assoc true b c = refl
+and-assoc false b c = refl
+
+good-is : (records : List ℕ) (count : ℕ) → isCount count ≡ true →
+    (isRack records count && each count (λ i. tagInRange (tagAt (boardIn records count) i)))
+    ≡ (eqb (length records) (count * 80) && every count (λ i. isRecord (recordIn records i)))
+unfolding isRack recordIn recordAt
+good-is records count few =
+    let bounds = counted count few in
+    let ranges = each-same count (λ i. tagInRange (tagAt (boardIn records count) i)) (λ i. inRange (unpacked (recordAt records i)))
+    (λ i h. ap tagInRange (tag-racked records count i (omega (arith, h, bounds .1))) ∙ sym (range-is (unpacked (recordAt records i)))) in
+    ap (λ (b : Bool). isRack records count && b) ranges
+    ∙ and-assoc (eqb (length records) (count * 80)) (each count (λ i. isPacked (recordAt records i))) (each count (λ i. inRange (unpacked (recordAt records i))))
+    ∙ ap (λ (b : Bool). eqb (length records) (count * 80) && b)
+    (each-both count (λ i. isPacked (recordAt records i)) (λ i. inRange (unpacked (recordAt records i)))
+    ∙ sym (every-is count (λ i. isRecord (recordIn records i))))
+
+-- the number of what is judged; two numbers and the records count only where the count is one
+judged-number : (count size : ℕ) (same held good fine : Bool) (code place reading : ℕ) →
+    (isCount count ≡ true → (same ≡ held) × (good ≡ fine)) →
+    numberIn (judgedBy count size same good code place reading)
+    ≡ (if not (isLine count) || (eqb code 3 && leb count place) then 14
+    else if not (eqb size (count * 8832)) then 3
+    else if held then 13
+    else if not fine then 6
+    else ownNumber code reading)
+unfolding judgedBy isCount namesNone isHigh ownNumber
+judged-number count size same held good fine code place reading known = by (isCount count) refl
+  where
+    by : (few : Bool) → isCount count ≡ few →
+        numberIn (judgedBy count size same good code place reading)
+        ≡ (if not (isLine count) || (eqb code 3 && leb count place) then 14
+        else if not (eqb size (count * 8832)) then 3
+        else if held then 13
+        else if not fine then 6
+        else ownNumber code reading)
+    by true few =
+        (λ i. numberIn (judgedBy count size (known few .0 i) (known few .1 i) code place reading))
+        ∙ numbered (not (isLine count) || (eqb code 3 && leb count place)) Answer.TagPlace _ refl
+        (numbered (not (eqb size (count * 8832))) Answer.ImageLength _ refl
+        (numbered held Answer.SameNumber _ refl
+        (numbered (not fine) Answer.RecordRange _ refl
+        (numbered (ltb 4 code) Answer.EventCode _ refl
+        (numbered (eqb code 3 && ltb 2047 reading) Answer.Reading Answer.Accepted refl refl)))))
+    by false few = rw few
+
+event-number : (block records : List ℕ) (count code place reading : ℕ) →
+    lineCall block records count code place reading .number ≡ lineNumber block records count code place reading
+unfolding lineNumber
+event-number block records count code place reading =
+    line-number block records count code place reading
+    ∙ judged-number count (length block) _ (twiceIn records count) _ _ code place reading (λ few. (twice-in records count few, good-is records count few))
+
+-- ---- a new line
+
+fault-number : (numbers codes : List ℕ) (place left : ℕ) → numberIn (newFault numbers codes place left) ≡ faultFrom numbers codes place left
+unfolding newFault faultFrom goodCode
+fault-number numbers codes place zero = refl
+fault-number numbers codes place (suc left) =
+    rw (← rom-is (getD numbers place 0))
+    (numbered (not (isRom (getD numbers place 0))) Answer.RomNumber _ refl
+    (numbered (not (isConfiguration (getD codes place 0))) Answer.Configuration _ refl (fault-number numbers codes (place + 1) left)))
+
+-- 6 stands before these
+short-fault : (numbers codes : List ℕ) (place left : ℕ) → shortNumber (faultFrom numbers codes place left) ≡ 6
+unfolding faultFrom shortNumber
+short-fault numbers codes place zero = refl
+short-fault numbers codes place (suc left) =
+    by (not (isRom (getD numbers place 0))) (not (isConfiguration (getD codes place 0))) (short-fault numbers codes (place + 1) left)
+  where
+    by : (a b : Bool) → shortNumber (faultFrom numbers codes (place + 1) left) ≡ 6 →
+        shortNumber (if a then 4 else if b then 5 else faultFrom numbers codes (place + 1) left) ≡ 6
+    by true b e = refl
+    by false true e = refl
+    by false false e = e
+
+module _ (block records numbers codes : List ℕ) where
+  -- by the tests, one by one
+  firsts : (few many whole same fits : Bool) → ℕ
+  firsts few many whole same fits =
+      if not (few && many) then 14
+      else if not whole then 3
+      else if same then 13
+      else if not fits then 6
+      else faultFrom numbers codes 0 (length numbers)
+
+  new-number-is : newLineCall block records numbers codes .number ≡ newLineNumber block records numbers codes
+  unfolding newLineNumber newJudged hasRoom isCount shortNumber firsts
+  new-number-is =
+      let count = length numbers in
+      let told : answerNumber (newJudged (length block) numbers codes)
+      ≡ (if not (isLine count && eqb (length codes) count) then 14
+      else if not (eqb (length block) (count * 8832)) then 3
+      else if twice count (λ i. getD numbers i 0) then 13
+      else faultFrom numbers codes 0 count) =
+      rw (← twice-is count (λ i. getD numbers i 0))
+      (numbered (not (isLine count && eqb (length codes) count)) Answer.TagPlace _ refl
+      (numbered (not (eqb (length block) (count * 8832))) Answer.ImageLength _ refl
+      (numbered (twice count (λ i. getD numbers i 0)) Answer.SameNumber _ refl (fault-number numbers codes 0 count)))) in
+      new-number block records numbers codes
+      ∙ rw told
+      (by (isLine count) (eqb (length codes) count) (eqb (length block) (count * 8832)) (twice count (λ i. getD numbers i 0))
+      (eqb (length records) (count * 80)) (short-fault numbers codes 0 count))
+    where
+      first : (few many whole same : Bool) → ℕ
+      first few many whole same =
+          if not (few && many) then 14
+          else if not whole then 3
+          else if same then 13
+          else faultFrom numbers codes 0 (length numbers)
+
+      by : (few many whole same fits : Bool) → shortNumber (faultFrom numbers codes 0 (length numbers)) ≡ 6 →
+          (if few && fits then first few many whole same else shortNumber (first few many whole same)) ≡ firsts few many whole same fits
+      by false many whole same fits e = refl
+      by true false whole same true e = refl
+      by true false whole same false e = refl
+      by true true false same true e = refl
+      by true true false same false e = refl
+      by true true true true true e = refl
+      by true true true true false e = refl
+      by true true true false true e = refl
+      by true true true false false e = e
+
+  -- one that is accepted had room for its records
+  had-room : newLineNumber block records numbers codes ≡ 0 → hasRoom (length records) (length numbers) ≡ true
+  unfolding newLineNumber hasRoom isCount firsts
+  had-room =
+      by (isLine (length numbers)) (eqb (length codes) (length numbers)) (eqb (length block) (length numbers * 8832))
+      (twice (length numbers) (λ i. getD numbers i 0)) (eqb (length records) (length numbers * 80))
+    where
+      by : (few many whole same fits : Bool) → firsts few many whole same fits ≡ 0 → (few && fits) ≡ true
+      by true many whole same true e = refl
+      by true true true false false e = absurd (omega (arith, e))
+      by true true true true false e = absurd (omega (arith, e))
+      by true true false same false e = absurd (omega (arith, e))
+      by true false whole same false e = absurd (omega (arith, e))
+      by false many whole same fits e = absurd (omega (arith, e))
+
+-- the record of all zeros, and those of a refused line
+fresh-is : freshTag 0 0 ≡ clearTag 0 0
+unfolding modeOf
+fresh-is = refl
+
+tag-zeros : (count i : ℕ) → tagAt (emptyBoard count) i ≡ clearTag 0 0
+unfolding tagAt emptyBoard modeOf
+tag-zeros count i =
+    dite (decLt i 7) (λ lt. getD-replicate 7 i (freshTag 0 0) (freshTag 0 0) lt)
+    (λ ge.
+    let past : length (replicate 7 (freshTag 0 0)) ≤ i = omega (arith, ge) in
+    List·getD-eq-default (replicate 7 (freshTag 0 0)) (freshTag 0 0) past)
+
+rack-zeros : (count place left : ℕ) → rackFrom (emptyBoard count) place left ≡ zerosOf left
+unfolding rackFrom zerosOf
+rack-zeros count place zero = refl
+rack-zeros count place (suc left) =
+    λ i. (ap packed (tag-zeros count place) ∙ zeros-packed) i ++ rack-zeros count (place + 1) left i
+
+zeros-left : (records numbers : List ℕ) →
+    (if hasRoom (length records) (length numbers) then rackOf (emptyBoard (length numbers)) else records)
+    ≡ (if isLine (length numbers) && eqb (length records) (length numbers * 80) then zerosOf (length numbers) else records)
+unfolding hasRoom isCount rackOf emptyBoard
+zeros-left records numbers = by (isCount (length numbers)) refl (eqb (length records) (length numbers * 80))
+  where
+    by : (few : Bool) → isCount (length numbers) ≡ few → (fits : Bool) →
+        (if few && fits then rackOf (emptyBoard (length numbers)) else records) ≡ (if few && fits then zerosOf (length numbers) else records)
+    by true few true =
+        ap (rackFrom (emptyBoard (length numbers)) 0) (places-counted (length numbers) few) ∙ rack-zeros (length numbers) 0 (length numbers)
+    by true few false = refl
+    by false few fits = refl
+
+-- a line as it is kept once it is made
+module _ (block records numbers codes : List ℕ) (had : hasRoom (length records) (length numbers) ≡ true)
+    (zero : answerNumber (newLine block numbers codes .shown .answer) ≡ 0)
+    (fit : AllFit (asked (length numbers) (newLine block numbers codes))) where
+  made-count : newLine block numbers codes .shown .board .count ≡ length numbers
+  unfolding emptyBoard
+  made-count = kept-new block numbers codes zero .count
+
+  asked-is : asked (length numbers) (newLine block numbers codes) ≡ newLine block numbers codes .shown .board
+  asked-is = λ i. record { tags = newLine block numbers codes .shown .board .tags; count = sym made-count i }
+
+  made-lined : Lined (newLine block numbers codes .shown .board)
+  unfolding emptyBoard isCount
+  made-lined =
+      let board = newLine block numbers codes .shown .board in
+      let k = kept-new block numbers codes zero in
+      let r = room (length records) (length numbers) had in
+      let fits : AllFit board = subst AllFit asked-is fit in
+      record {
+        few = rw made-count (r .few);
+        size = k .size;
+        holds = λ i h.
+            holds-of (tagAt board i) (fits i (omega (arith, h, made-count, places-counted (board .count) (rw made-count (r .few)))));
+        rest = λ i h. k .rest i (omega (arith, h, made-count)) ∙ tag-zeros (length numbers) i;
+      }
+
+-- ---- a line that is kept
+
+module _ (board : Board) (lined : Lined board) where
+  few-lined : isCount (board .count) ≡ true
+  unfolding isCount
+  few-lined = lined .few
+
+  fit-lined : AllFit board
+  fit-lined i h = fits-of (tagAt board i) (lined .holds i (omega (arith, h, places-counted (board .count) few-lined)))
+
+  rest-lined : (i : ℕ) → board .count ≤ i → tagAt board i ≡ freshTag 0 0
+  rest-lined i h = lined .rest i h ∙ sym fresh-is
+
+  module _ (block : List ℕ) (code place reading : ℕ) where
+    abbrev left : Left
+    left = lineStep block board code place reading
+
+    -- a refusal leaves the board
+    same-board : answerNumber (left .shown .answer) ≢ 0 → left .shown .board ≡ board
+    same-board fault =
+        ap (λ (l : Left). l .shown .board)
+        (board-laws.line-refused block board code place reading (λ zero. fault (ap answerNumber (step-answer block board code place reading) ∙ zero)))
+
+    keeps-lined : (answerNumber (left .shown .answer) ≡ 0 → AllFit (left .shown .board)) → Lined (left .shown .board)
+    keeps-lined fit =
+        dite (ℕ-discrete (answerNumber (left .shown .answer)) 0)
+        (λ zero.
+        let k = kept block board code place reading in
+        let few : isCount (left .shown .board .count) ≡ true = rw (k .count) few-lined in
+        record {
+          few = rw (k .count) (lined .few);
+          size = k .size ∙ lined .size;
+          holds = λ i h. holds-of (tagAt (left .shown .board) i) (fit zero i (omega (arith, h, places-counted (left .shown .board .count) few)));
+          rest = λ i h. k .rest i (omega (arith, h, k .count)) ∙ lined .rest i (omega (arith, h, k .count));
+        })
+        (λ some. rw (same-board some) lined)
+
+    -- the bytes of the line that it leaves
+    call-is : lineCall block (rackOf board) (board .count) code place reading
+        ≡ record {
+          number = answerNumber (left .shown .answer);
+          block = left .block;
+          records = rackOf (left .shown .board);
+          line = digit (left .shown .line);
+        }
+    unfolding lineCall
+    call-is =
+        rw (own-rack board few-lined fit-lined, rack-back board few-lined fit-lined (lined .size) rest-lined)
+        (dite (ℕ-discrete (answerNumber (left .shown .answer)) 0) (λ zero. rw (eq-eqb _ 0 zero))
+        (λ some. rw (ne-eqb _ 0 some, same-board some)))
+
+-- ---- all together
+
+pub libraryLine : LibraryLine
+unfolding recordIn recordAt
+libraryLine =
+    record {
+      laid = λ board lined.
+          (length-rack board (few-lined board lined) (fit-lined board lined), record-rack board (few-lined board lined) (fit-lined board lined));
+      any-new = λ κs block records numbers codes. tt;
+      any-event = λ κs block records count code place reading line. tt;
+      news = λ κs block records numbers codes r exit p.
+          let n = new-number-is (now block) (now records) (now numbers) (now codes) in (
+            p .0 ∙ n,
+            λ some.
+                let left = new-refused (now block) (now records) (now numbers) (now codes) (λ none. some (p .0 ∙ none)) in
+                (p .1 .0 ∙ left .0, p .1 .1 .0 ∙ left .1 ∙ zeros-left (now records) (now numbers)),
+          );
+      events = λ κs block records count code place reading line r exit p.
+          let n = event-number (now block) (now records) count code place reading in (
+            p .0 ∙ n,
+            λ some.
+                let left = line-left (now block) (now records) count code place reading (λ none. some (p .0 ∙ none)) in
+                (p .1 .0 ∙ left .0, p .1 .1 .0 ∙ left .1, p .1 .1 .1 .0 ∙ left .2),
+          );
+      makes = λ κs block records numbers codes r exit p none.
+          let n = new-number-is (now block) (now records) (now numbers) (now codes) in
+          let room = had-room (now block) (now records) (now numbers) (now codes) (sym n ∙ sym (p .0) ∙ none) in
+          let e = new-made (now block) (now records) (now numbers) (now codes) room in
+          let zero = sym (ap (λ (c : NewLine). c .number) e) ∙ sym (p .0) ∙ none in
+          let fit = p .1 .1 .1 room in (
+            p .1 .0 ∙ ap (λ (c : NewLine). c .block) e,
+            p .1 .1 .0 ∙ ap (λ (c : NewLine). c .records) e ∙ ap rackOf (asked-is (now block) (now records) (now numbers) (now codes) room zero fit),
+            made-count (now block) (now records) (now numbers) (now codes) room zero fit,
+            made-lined (now block) (now records) (now numbers) (now codes) room zero fit,
+          );
+      steps = λ board lined κs block records code place reading line r exit p is.
+          let e = ap (λ (l : List ℕ). lineCall (now block) l (board .count) code place reading) is ∙ call-is board lined (now block) code place reading in
+          let own = ap (λ (l : List ℕ). isRack l (board .count)) is ∙ own-rack board (few-lined board lined) (fit-lined board lined) in
+          let back = ap (λ (l : List ℕ). boardIn l (board .count)) is ∙ rack-back board (few-lined board lined) (fit-lined board lined) (lined .size) (rest-lined board lined) in (
+            p .0 ∙ ap (λ (c : LineEvent). c .number) e,
+            p .1 .0 ∙ ap (λ (c : LineEvent). c .block) e,
+            p .1 .1 .0 ∙ ap (λ (c : LineEvent). c .records) e,
+            p .1 .1 .1 .0 ∙ ap (λ (c : LineEvent). c .line) e,
+            keeps-lined board lined (now block) code place reading
+                (λ zero. subst (λ (b : Board). AllFit (lineStep (now block) b code place reading .shown .board)) back
+                (p .1 .1 .1 .1 .1 own (ap (λ (c : LineEvent). c .number) e ∙ zero))),
+          );
+    }
