@@ -3,6 +3,7 @@
  *
  *   play      what the program play does, by bagtag_new and bagtag_event
  *   lists     the same, the events in lists, by bagtag_events; each list has twice as many as the one before, up to MOST_WORDS
+ *   shed      what the program shed does, by bagtag_line_new and bagtag_line_event
  *   list      what the program list does, by bagtag_list
  *   refused   with a dump on standard input: calls whose lengths or numbers are wrong, and a right one of each; a line for each call,
  *             its answer in two digits, and the line bit or how many are done or held, where the call tells that
@@ -12,6 +13,7 @@
 #define BLOCK 65536
 #define HEAD 9
 #define GROUP 3
+#define LINE_GROUP 4
 #define MOST_WORDS 1024
 #define MOST_READING 2047
 #define TICK_WORD 4096
@@ -224,27 +226,81 @@ static uint8_t play_groups(const uint8_t *groups, size_t count, int in_lists)
     return answer;
 }
 
-/* Each whole group is answered before the next read. */
-static void play(int in_lists)
+/* The groups of all that comes, until one is refused; each whole group is answered before the next read. */
+static void play_all(size_t size, uint8_t (*play)(const uint8_t *groups, size_t count, int how), int how)
 {
-    uint8_t answer;
+    uint8_t answer = BAGTAG_OK;
     size_t held = 0, got;
 
-    take(block, HEAD);
-    answer = bagtag_new(image, BAGTAG_IMAGE, record, BAGTAG_RECORD, number_at(block, 8), block[8]);
-    if (answer != BAGTAG_OK)
-        put_refusal(answer);
     while (answer == BAGTAG_OK && (got = take_some(block + held, BLOCK - held)) > 0) {
         size_t whole;
 
         held += got;
-        whole = held / GROUP * GROUP;
-        answer = play_groups(block, held / GROUP, in_lists);
+        whole = held / size * size;
+        answer = play(block, held / size, how);
         print_out();
         for (size_t i = whole; i < held; i++)
             block[i - whole] = block[i];
         held -= whole;
     }
+}
+
+static void play(int in_lists)
+{
+    uint8_t answer;
+
+    take(block, HEAD);
+    answer = bagtag_new(image, BAGTAG_IMAGE, record, BAGTAG_RECORD, number_at(block, 8), block[8]);
+    if (answer == BAGTAG_OK)
+        play_all(GROUP, play_groups, in_lists);
+    else
+        put_refusal(answer);
+    print_out();
+}
+
+/* ---- Playing to a line ---- */
+
+/* Room for one tag too many. */
+static uint8_t images[BAGTAG_IMAGE * (BAGTAG_LINE_TAGS + 1)], records[BAGTAG_RECORD * (BAGTAG_LINE_TAGS + 1)];
+
+static uint8_t play_to_line(const uint8_t *groups, size_t count, int tags)
+{
+    uint8_t answer = BAGTAG_OK, line;
+
+    for (size_t i = 0; i < count && answer == BAGTAG_OK; i++) {
+        const uint8_t *group = groups + LINE_GROUP * i;
+
+        answer = bagtag_line_event(images, BAGTAG_IMAGE * (size_t)tags, records, BAGTAG_RECORD * (size_t)tags, (uint8_t)tags,
+                                   group[0], group[1], reading_of(group + 1), &line);
+        if (answer == BAGTAG_OK)
+            put_bit(line);
+        else
+            put_refusal(answer);
+    }
+    return answer;
+}
+
+/* Of more tags than a line has, one more is enough to be refused. */
+static void shed(void)
+{
+    uint64_t numbers[BAGTAG_LINE_TAGS + 1];
+    uint8_t codes[BAGTAG_LINE_TAGS + 1], tags = 0, answer;
+
+    take(&tags, 1);
+    if (tags > BAGTAG_LINE_TAGS)
+        tags = BAGTAG_LINE_TAGS + 1;
+    for (int place = 0; place < tags; place++) {
+        for (int i = 0; i < HEAD; i++)
+            block[i] = 0;
+        take(block, HEAD);
+        numbers[place] = number_at(block, 8);
+        codes[place] = block[8];
+    }
+    answer = bagtag_line_new(images, BAGTAG_IMAGE * (size_t)tags, records, BAGTAG_RECORD * (size_t)tags, numbers, tags, codes, tags);
+    if (answer == BAGTAG_OK)
+        play_all(LINE_GROUP, play_to_line, tags);
+    else
+        put_refusal(answer);
     print_out();
 }
 
@@ -287,7 +343,10 @@ static void list(void)
 /* ---- Refusals ---- */
 
 #define GOOD_NUMBER 0xA1000000FBC52B41
+#define OTHER_NUMBER 0xCD00000000000141
 #define GOOD_CODE 0x40
+#define TWO_IMAGES (2 * BAGTAG_IMAGE)
+#define TWO_RECORDS (2 * BAGTAG_RECORD)
 
 static void put_answer(uint8_t answer, uint64_t told)
 {
@@ -328,6 +387,40 @@ static void answer_list(size_t dump_len, size_t places, size_t head_len)
     put_answer(answer, number_at(head + BAGTAG_HEAD_HELD, 4));
 }
 
+/* A line of two, and more or less of what it is lent. */
+static void answer_new_line(size_t block_len, size_t records_len, uint64_t second, size_t codes_len)
+{
+    const uint64_t numbers[] = {GOOD_NUMBER, second};
+    static const uint8_t codes[] = {GOOD_CODE, GOOD_CODE, GOOD_CODE};
+
+    put_number(bagtag_line_new(images, block_len, records, records_len, numbers, 2, codes, codes_len));
+    put('\n');
+}
+
+static void answer_line_event(size_t block_len, size_t records_len, uint8_t tags, uint8_t code, uint8_t place, uint16_t reading)
+{
+    uint8_t line = 7, answer = bagtag_line_event(images, block_len, records, records_len, tags, code, place, reading, &line);
+
+    put_answer(answer, line);
+}
+
+static void refused_by_line(void)
+{
+    answer_new_line(TWO_IMAGES - 1, TWO_RECORDS, GOOD_NUMBER, 3);
+    answer_new_line(TWO_IMAGES - 1, TWO_RECORDS, GOOD_NUMBER, 2);
+    answer_new_line(TWO_IMAGES, TWO_RECORDS - 1, GOOD_NUMBER, 2);
+    answer_new_line(TWO_IMAGES, TWO_RECORDS - 1, 0, 2);
+    answer_new_line(TWO_IMAGES, TWO_RECORDS, 0, 2);
+    answer_line_event(TWO_IMAGES, TWO_RECORDS, 2, BAGTAG_RESET, 0, 0);
+    answer_new_line(TWO_IMAGES, TWO_RECORDS, OTHER_NUMBER, 2);
+    answer_line_event(TWO_IMAGES, TWO_RECORDS, 2, BAGTAG_TICK, 2, MOST_READING + 1);
+    answer_line_event(TWO_IMAGES, TWO_RECORDS, 1, BAGTAG_RESET, 0, 0);
+    answer_line_event(TWO_IMAGES, TWO_RECORDS - 1, 2, BAGTAG_SHORT_RESET + 1, 0, 0);
+    answer_line_event(TWO_IMAGES, TWO_RECORDS, 2, BAGTAG_SHORT_RESET + 1, 9, MOST_READING + 1);
+    answer_line_event(TWO_IMAGES, TWO_RECORDS, 2, BAGTAG_TICK, 1, MOST_READING + 1);
+    answer_line_event(TWO_IMAGES, TWO_RECORDS, 2, BAGTAG_RESET, 9, MOST_READING + 1);
+}
+
 static void refused(void)
 {
     take(block, BLOCK);
@@ -348,6 +441,7 @@ static void refused(void)
     answer_events(BAGTAG_IMAGE, BAGTAG_RECORD, 3, 3);
     answer_events(BAGTAG_IMAGE, BAGTAG_RECORD, 2, 2);
     answer_events(BAGTAG_IMAGE, BAGTAG_RECORD, 0, 0);
+    refused_by_line();
     answer_list(BAGTAG_DUMP - 1, BAGTAG_PLACES, BAGTAG_HEAD);
     answer_list(BAGTAG_DUMP, 0, BAGTAG_HEAD);
     answer_list(BAGTAG_DUMP, BAGTAG_PLACES, BAGTAG_HEAD - 1);
@@ -371,6 +465,8 @@ __attribute__((used)) void begin(const char *const *stack)
 
     if (is(what, "play") || is(what, "lists"))
         play(is(what, "lists"));
+    else if (is(what, "shed"))
+        shed();
     else if (is(what, "list"))
         list();
     else if (is(what, "refused"))
