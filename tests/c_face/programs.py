@@ -1,8 +1,10 @@
 """The programs of examples/c: each session of examples/ and random ones through session and firmware, against the program play;
-the firmware over power failures, against the model; dumps through listing, against the program list."""
+the firmware over power failures, against the model; sessions of several tags through line, against the model; dumps through
+listing, against the program list."""
 
 import sys
 
+import boards
 import dumps
 import sessions
 from model.programs import HEAD, play as model_play, refusal
@@ -21,7 +23,7 @@ from reader.sessions import parse
 MOST_WORDS = 4096  # of a list, by session.c
 STORED = 81  # bytes of an event that the firmware stores: the record and the mark
 PASSWORDS = {"landing": b"INSPECT1"}  # of sessions whose dump is read behind them
-DUMPS = 18  # one of each kind
+DUMPS, LINES = 18, 48  # one of each kind
 TICK, SLOTS = 3, (0, 1)
 
 
@@ -34,11 +36,19 @@ def checks(builds, play, list_, numbers, sources=EXAMPLES):
     for name, stdin in stored_sessions():
         yield from failing(name, stdin, firmware)
     yield from lost_conversion(firmware)
+    yield from lined(builds.program("line", sources / "line.c"), LINES if numbers else 0)
     yield from listed(listing, list_)
     for name, words in (("no number", ("x",)), ("too many words", (str(MOST_WORDS + 1),)), ("two words", ("1", "2"))):
         yield f"session with {name}", *equal(ended([*session, *words], b""), (2, b""))
     for name, words in (("one word", ("1",)), ("no event to fail in", ("0", "1"))):
         yield f"firmware with {name}", *equal(ended([*firmware, *words], b""), (2, b""))
+
+
+def lined(program, total):
+    """Sessions of several tags, whole."""
+    for number in range(total):
+        kind, stdin, expected = boards.session(1, number)
+        yield f"line {number} ({kind}): line", *equal(ended(program, stdin), (int(b"R" in expected), expected))
 
 
 def ended(words, stdin):
