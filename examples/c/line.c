@@ -2,8 +2,8 @@
  * line.c - several tags on one line, driven by a session: a board in a shed that carries them.
  *
  * Standard input and output are those of the program shed: the count; for each tag eight ROM bytes, low first, and the code; then
- * four bytes an event, its code, the place of its tag and the reading, high byte first. 0 or 1 and a line feed for each event, or R,
- * a refusal's number in two digits and a line feed, and the end. Exit status: 0 done, 1 refused.
+ * four bytes an event, its code, the place of its tag and the reading, high byte first; 0 or 1 and a line feed for each event, or
+ * R, a refusal's number in two digits and a line feed, and the end. Exit status: 0 done, 1 refused.
  */
 #include <stdbool.h>
 #include <stdio.h>

@@ -89,7 +89,8 @@ def new_lines(driver):
 TWO = new_record(FIRST) + new_record(SECOND)
 BLOCKS = {"of its length": NEW_IMAGE * 2, "a byte short": (NEW_IMAGE * 2)[:-1], "of one image": NEW_IMAGE, "empty": b""}
 RECORDS = {"whole": TWO, "a byte short": TWO[:-1], "a byte long": TWO + b"\0", "of three": TWO + ZEROS, "of one": TWO[:RECORD],
-           "empty": b"", "twice the same": TWO[:RECORD] * 2, "of all zeros": ZEROS * 2, "the first of all zeros": ZEROS + TWO[RECORD:],
+           "empty": b"", "twice the same": TWO[:RECORD] * 2, "of all zeros": ZEROS * 2, "of one, of all zeros": ZEROS,
+           "the first of all zeros": ZEROS + TWO[RECORD:],
            "the second of another version": TWO[:RECORD] + b"\2" + TWO[RECORD + 1:],
            "the second with minute 60": TWO[:RECORD] + packed.with_parts(TWO[RECORD:], MINUTE=b"\x3C"),
            "twice the same, the second without its last byte": (TWO[:RECORD] * 2)[:-1],
@@ -119,8 +120,9 @@ def event_number(length, records, tags, code, place, reading):
 def refused_events(driver):
     for block_name, block in BLOCKS.items():
         for records_name, records in RECORDS.items():
-            given = {(tags, *event): event_number(len(block), records, tags, *event) for tags in (0, 1, 2, 3, 8) for event in EVENTS}
-            refused = {event: answer for event, answer in given.items() if answer}
+            given = [(tags, *event) for tags in (0, 1, 2, 3, 8) for event in EVENTS]
+            answers = [event_number(len(block), records, *event) for event in given]
+            refused = {event: answer for event, answer in zip(given, answers) if answer}
             calls = Calls()
             calls.image(block)
             calls.record(records)
@@ -224,7 +226,8 @@ def thrown(rng, reached):
     if rng.random() < 0.6:
         records[rng.randrange(tags)] = some_record(rng, reached)
     if rng.random() < 0.15:
-        records[rng.randrange(tags)] = packed.with_parts(rng.choice(records), NUMBER=packed.part(records[0], "NUMBER").ljust(8, b"\0"))
+        number = packed.part(records[0], "NUMBER").ljust(8, b"\0")
+        records[rng.randrange(tags)] = packed.with_parts(rng.choice(records), NUMBER=number)
     joined = b"".join(records)
     if rng.random() < 0.2:
         joined = rng.choice((joined[:-1], joined + b"\0", joined[:RECORD], joined[:rng.randrange(len(joined) + 1)], joined * 2))

@@ -19,9 +19,9 @@
  *   I  the image is given out as far as it is lent, R: the record
  *
  * Standard output: of each call the answer, and by their bits which pieces it changed (enum piece, and BESIDE); for an event
- * then the line and whether what the header says by BAGTAG_SENDS did not hold of the slot, or whether the tags of a line would have
- * been left otherwise one by one; for a list of events `done` in eight bytes and all reply bytes; for a dump all places and the whole
- * head. What a call must fill has UNUSED bytes before it.
+ * then the line and whether what the header says by BAGTAG_SENDS did not hold of the slot, or whether the tags of a line would
+ * have been left otherwise one by one; for a list of events `done` in eight bytes and all reply bytes; for a dump all places and
+ * the whole head. What a call must fill has UNUSED bytes before it.
  */
 #include <stdbool.h>
 #include <stdio.h>

@@ -1,6 +1,6 @@
 -- The calls of the library for C that go to several tags on one line (request #106), by `newLine` and `lineStep`, through the bytes of
 -- their records: what each answers, and what it leaves in the bytes that it is lent. Assumes nothing.
-use mathlib.Core.Bool.{Bool, true, false, _||_}
+use mathlib.Core.Bool.{true, false, _||_}
 use mathlib.Core.List.{List}
 use mathlib.Core.Path.{_≡_}
 use Prim.Native.Nat.{ℕ}
@@ -30,7 +30,7 @@ abbrev pub lineMade : ℕ → Left → NewLine
 lineMade count left =
     record { number = answerNumber (left .shown .answer); block = left .block; records = rackOf (asked count left) }
 
--- "14, 3, 13", then "6 for the records' length alone", which stands before 4 and 5
+-- "14, 3, 13, then place by place 4, 5": 6 for the records' length stands before 4, as it does for a single tag
 unfoldable pub shortNumber : ℕ → ℕ
 shortNumber number = if eqb number 0 || (eqb number 4 || eqb number 5) then answerNumber Answer.RecordRange else number
 
@@ -52,7 +52,7 @@ pub record LineEvent : Type 0 where
   pub records : List ℕ
   pub line : ℕ
 
--- "A refusal changes no byte"
+-- "a refusal changes no tag"
 abbrev pub lineStepped : List ℕ → Left → LineEvent
 lineStepped records left =
     record {
@@ -62,8 +62,7 @@ lineStepped records left =
       line = digit (left .shown .line);
     }
 
--- "6: the records' length .., or some record's bytes are not what a record packs to", in 6's place of the order; 13 "compares the numbers as
--- they are"
+-- bytes that are no line's records are 6, in 6's place of the order: 13 comes before it, and "compares the numbers as they are"
 unfoldable pub lineCall : List ℕ → List ℕ → ℕ → ℕ → ℕ → ℕ → LineEvent
 lineCall block records count code place reading =
     if isRack records count then lineStepped records (lineStep block (boardIn records count) code place reading)

@@ -24,7 +24,7 @@ hasRoom size count = isCount count && eqb size (count * 80)
 unfoldable pub recordAt : List ℕ → ℕ → List ℕ
 recordAt records place = take 80 (drop (place * 80) records)
 
--- "Another length than count times the record's", or a record with "an encoding that no record has", is none
+-- as many bytes as so many records have, and each record's are such as some record packs to
 unfoldable pub isRack : List ℕ → ℕ → Bool
 isRack records count = eqb (length records) (count * 80) && each count (λ i. isPacked (recordAt records i))
 

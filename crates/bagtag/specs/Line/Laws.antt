@@ -1,11 +1,10 @@
 -- Which way a call to a line goes, what its number is, and what a refusal leaves. Assumes nothing.
 use mathlib.Core.Path.{_≡_, refl, sym, ap, _∙_}
-use mathlib.Core.Bool.{Bool, true, false, _&&_, _||_}
+use mathlib.Core.Bool.{Bool, true, false, _&&_}
 use mathlib.Core.List.{List}
 use mathlib.Core.Logic.{_≢_, dite}
 use Prim.Native.Nat.{ℕ}
 use native.Mathlib.Decide.{ℕ-discrete}
-use native.Mathlib.Omega.{arith}
 use borrow.Author.Tests.{eqb-true, eq-eqb, ne-eqb}
 use lib.Dec.{eqb}
 use lib.ListN.{length}
@@ -22,7 +21,7 @@ use Rattle.rack.specs.Rack.{hasRoom, isRack, boardIn, sameHeld, rackOf}
 use Rattle.rack.specs.Rack.Back.{same-racked}
 use Rattle.record.specs.declared.Tag.{Tag}
 use Rattle.record.specs.Record.{tagInRange}
-use Rattle.bagtag.specs.Line.{NewLine, lineMade, shortNumber, newLineCall, lineStepped, lineCall}
+use Rattle.bagtag.specs.Line.{NewLine, lineMade, shortNumber, newLineCall, lineCall}
 
 -- ---- a new line
 

@@ -10,7 +10,7 @@ use lib.Dec.{eqb}
 use lib.ListN.{length, length-set}
 use Rattle.answer.specs.Answer.{answerNumber}
 use Rattle.answer.specs.Answer.Laws.{accepted-is}
-use Rattle.bits.specs.Choose.{if_then_else_, either}
+use Rattle.bits.specs.Choose.{either}
 use Rattle.record.specs.declared.Tag.{Tag}
 use Rattle.board.specs.Board.{tagAt, withTag, judged, Left, Going, begun, reached, given, taken, lineStep, newJudged, emptyBoard, newAt, made, newLine}
 use Rattle.board.specs.Board.Laws.{passed, tick-named}

@@ -39,7 +39,7 @@ twice n number = some n (λ i. some i (λ j. eqb (number i) (number j)))
 abbrev pub isLine : ℕ → Bool
 isLine count = leb 1 count && leb count 7
 
--- "Records side by side": that at a place
+-- records stand side by side: that at a place
 unfoldable pub recordIn : List ℕ → ℕ → List ℕ
 recordIn records place = take 80 (drop (place * 80) records)
 
@@ -65,7 +65,7 @@ faultFrom numbers codes place (suc left) =
     else if not (isConfiguration (getD codes place 0)) then 5
     else faultFrom numbers codes (place + 1) left
 
--- "14, 3, 13", with "as many codes as numbers, else 14"; "6 for the records' length alone"; "then place by place 4, 5"
+-- "14, 3, 13, then place by place 4, 5": 14 also for another number of codes than of numbers, and 6, for the records' length, before 4
 unfoldable pub newLineNumber : List ℕ → List ℕ → List ℕ → List ℕ → ℕ
 newLineNumber block records numbers codes =
     if not (isLine (length numbers) && eqb (length codes) (length numbers)) then 14
@@ -112,7 +112,7 @@ pub record LibraryLine : Type 2 where
       × (now (exit .1 .0)
       ≡ (if isLine (length (now numbers)) && eqb (length (now records)) (length (now numbers) * 80) then zerosOf (length (now numbers))
       else now records)))
-  -- an event: "A refusal changes no byte of block and records", and the line is 1
+  -- an event: "a refusal changes no tag", so no byte of block and records, and the line is 1
   pub events : (κs : _) (block : _) (records : _) (count code place reading : ℕ) (line : _) (r : ℕ) (exit : _) →
       bagtag-line-event.Post κs (block, (records, (count, (code, (place, (reading, (line, tt))))))) r exit →
       (r ≡ lineNumber (now block) (now records) count code place reading)

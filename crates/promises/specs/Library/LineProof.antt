@@ -1,6 +1,6 @@
 -- The library's calls to a line are the board's, through the bytes of its records. Assumes nothing.
 use mathlib.Core.Bool.{Bool, true, false, not, _&&_, _||_, false≢true}
-use mathlib.Core.List.{List, [], _∷_, _++_}
+use mathlib.Core.List.{List, _++_}
 use mathlib.Core.Logic.{_≢_, dite}
 use mathlib.Core.Path.{_≡_, refl, sym, ap, subst, _∙_}
 use Prim.Native.Nat.{ℕ, zero, suc, _+_, _*_, _/_, _≤_, _<_, min}
@@ -8,31 +8,28 @@ use native.Mathlib.Decide.{decLt, ℕ-discrete}
 use native.Mathlib.Omega.{arith}
 use borrow.Author.Tests.{eqb-true, eq-eqb, ne-eqb, not-true, not-false}
 use lib.Dec.{eqb, leb, ltb}
-use lib.ListN.{length, getD, replicate, length-replicate, getD-replicate, List·getD-eq-default}
+use lib.ListN.{length, getD, replicate, getD-replicate, List·getD-eq-default}
 use denote.Ref.{now}
 use Rattle.answer.specs.Answer.{answerNumber}
 use Rattle.answer.specs.declared.Answer.{Answer}
-use Rattle.bagtag.proofs.line.bagtag_line_event.Reads as bagtag-line-event
-use Rattle.bagtag.proofs.line.bagtag_line_new.Reads as bagtag-line-new
 use Rattle.bagtag.specs.Line.{NewLine, asked, shortNumber, newLineCall, LineEvent, lineCall}
 use Rattle.bagtag.specs.Line.Laws.{new-made, new-number, new-refused, line-number, line-left}
 use Rattle.bits.specs.Bits.{digit}
-use Rattle.bits.specs.Each.{each, each-true, each-holds, each-fails, each-same}
+use Rattle.bits.specs.Each.{each, each-holds, each-fails, each-same}
 use Rattle.board.specs.declared.Board.{Board}
 use Rattle.board.specs.Board.{tagAt, isCount, namesNone, isHigh, sameNumber, judgedBy, Left, lineStep, newFault, newJudged, emptyBoard, newLine}
 use Rattle.board.specs.Board.Kept.{kept, kept-new, step-answer}
 use Rattle.board.specs.Board.Laws as board-laws
-use Rattle.board.specs.Board.Laws.{placesOf, places-counted, counted}
+use Rattle.board.specs.Board.Laws.{places-counted, counted}
 use Rattle.board.specs.Board.Numbers.{same-found, same-none}
 use Rattle.image.specs.Fields.{wordAt}
 use Rattle.packing.specs.Packing.{packed, isPacked, unpacked}
 use Rattle.rack.specs.Rack.{hasRoom, recordAt, isRack, boardIn, numberHeld, wholeIn, sameHeld, rackFrom, rackOf, AllFit}
 use Rattle.rack.specs.Rack.Back.{length-rack, record-rack, own-rack, rack-back, tag-racked}
 use Rattle.rack.specs.Rack.Laws.{room}
-use Rattle.record.specs.declared.Tag.{Tag}
-use Rattle.record.specs.Record.{freshTag, goodNumber, goodCode, tagInRange}
+use Rattle.record.specs.Record.{freshTag, goodCode, tagInRange}
 use Rattle.select.specs.Select.{modeOf}
-use Rattle.promises.specs.Library.{wordIn, digitOf, isRecord}
+use Rattle.promises.specs.Library.{isRecord}
 use Rattle.promises.specs.Library.Line.{every, some, twice, isLine, recordIn, romIn, twiceIn, zerosOf, faultFrom, newLineNumber, lineNumber, Lined, LibraryLine}
 use Rattle.promises.specs.Library.Proof.{zeros-packed}
 use Rattle.promises.specs.Library.Record.{fits-of, holds-of}

@@ -1,14 +1,11 @@
 -- `rack::is_rack` meets its contract. The loop's invariant: the records before the i-th are such as some record packs to. Assumes nothing.
 use mathlib.Core.Bool.{true}
 use mathlib.Core.Path.{_≡_, refl, sym, ap, _∙_}
-use mathlib.Core.Logic.{dite}
-use Prim.Native.Nat.{ℕ, _+_, _*_, _-_, _≤_, _<_}
-use native.Mathlib.Decide.{decLt}
+use Prim.Native.Nat.{ℕ, _-_, _≤_, _<_}
 use native.Mathlib.Omega.{arith}
 use borrow.Author.Count.{below-more}
 use borrow.Author.Needs.{needs}
 use borrow.Author.Tests.{not-true, not-false}
-use lib.ListN.{length}
 use Rattle.packing.specs.Packing.{isPacked}
 use Rattle.rack.specs.Rack.{recordAt}
 use Rattle.rack.specs.Rack.Laws.{part-is, rack-size, rack-bad, rack-good}

@@ -1,7 +1,7 @@
 -- `rack::pack_from` meets its contract. Assumes nothing.
 use borrow.Author.Needs.{needs}
 use Rattle.packing.specs.Packing.{packed}
-use Rattle.rack.specs.Rack.Laws.{sets-from}
+use Rattle.bits.specs.Stores.{sets-from}
 use Rattle.rack.proofs.pack_from.Statement.{statement}
 use Rattle.rack.proofs.pack_from.Tie as tie
 

@@ -1,14 +1,14 @@
 -- `rack::same_number` meets its contract. Assumes nothing.
 use mathlib.Core.List.{List, [], _∷_}
 use mathlib.Core.Path.{_≡_, sym, ap, _∙_}
-use Prim.Native.Nat.{ℕ, _≤_, _<_}
+use Prim.Native.Nat.{ℕ, _≤_}
 use native.Mathlib.Omega.{arith}
 use borrow.Author.Needs.{needs}
 use lib.ListN.{length, getD, take}
 use lib.Seq.{length-take-le}
 use Rattle.board.specs.Board.{sameNumber}
 use Rattle.board.specs.Board.Reading.{same-read}
-use Rattle.rack.specs.Rack.{seven, numberHeld, wholeIn, sameHeld}
+use Rattle.rack.specs.Rack.{seven, numberHeld, sameHeld}
 use Rattle.rack.specs.Rack.Laws.{seven-at, whole-some}
 use Rattle.rack.proofs.same_number.Statement.{statement}
 use Rattle.rack.proofs.same_number.Tie as tie

@@ -1,19 +1,18 @@
 -- Laws of a line's records as bytes: a record's place, how they are asked and read one by one, and how they are packed one behind the
 -- other. Assumes nothing.
 use mathlib.Core.Path.{_≡_, refl, sym, ap, _∙_}
-use mathlib.Core.Bool.{Bool, true, false, and-eq-true-iff}
-use mathlib.Core.List.{List, [], _∷_, _++_, append-nil}
-use mathlib.Core.Logic.{_≢_, dite}
-use Prim.Native.Nat.{ℕ, zero, suc, _+_, _*_, _-_, _≤_, _<_, min}
-use native.Mathlib.Decide.{decLe}
-use native.Mathlib.Nat.{add-suc}
+use mathlib.Core.Bool.{true, false, and-eq-true-iff}
+use mathlib.Core.List.{List, []}
+use mathlib.Core.Logic.{_≢_}
+use Prim.Native.Nat.{ℕ, zero, suc, _+_, _*_, _-_, _≤_, _<_}
 use native.Mathlib.Omega.{arith}
 use borrow.Author.Tests.{eqb-true, eq-eqb, ne-eqb}
 use lib.Dec.{eqb}
-use lib.ListN.{length, getD, set, take, drop, length-take, length-drop, take-append-drop, drop-of-length-le}
-use lib.Seq.{sets, take-all, take-set-le, drop-set-add, length-take-le}
-use Rattle.bits.specs.Each.{each, each-true, each-false, each-holds}
-use Rattle.bits.specs.Stores.{sets-join, sets-past}
+use lib.ListN.{length, getD, take, drop, length-take, length-drop}
+use lib.Seq.{sets}
+use Rattle.bits.specs.Each.{each-true, each-false, each-holds}
+use Rattle.bits.specs.Parts.{part-lent, length-part}
+use Rattle.bits.specs.Stores.{sets-join}
 use Rattle.board.specs.declared.Board.{Board}
 use Rattle.board.specs.Board.{tagAt, isCount}
 use Rattle.board.specs.Board.Laws.{places-some}
@@ -26,11 +25,11 @@ use Rattle.rack.specs.Rack.{hasRoom, recordAt, isRack, seven, wholeIn, r
 -- the part that the code lends
 pub part-is : (records : List ℕ) (place : ℕ) → take (place * 80 + 80 - place * 80) (drop (place * 80) records) ≡ recordAt records place
 unfolding recordAt
-part-is records place = let n : place * 80 + 80 - place * 80 ≡ 80 = omega arith in ap (λ (n : ℕ). take n (drop (place * 80) records)) n
+part-is records place = part-lent 80 records place
 
 pub length-record : (records : List ℕ) (place : ℕ) → (place + 1) * 80 ≤ length records → length (recordAt records place) ≡ 80
 unfolding recordAt
-length-record records place has = length-take-le 80 (drop (place * 80) records) (omega (arith, length-drop (place * 80) records, has))
+length-record records place has = length-part 80 records place (omega (arith, has))
 
 -- a record that is not wholly there stands for that of all zeros
 pub none-there : (records : List ℕ) (place : ℕ) → length records < (place + 1) * 80 → unpacked (recordAt records place) ≡ freshTag 0 0
@@ -94,23 +93,6 @@ racked records count e =
     record { size = eqb-true (length records) (count * 80) (a .0); own = each-holds count _ (a .1) }
 
 -- ---- packing
-
--- a run of stores in what lies behind a place
-sets-behind : (l : List ℕ) (n i : ℕ) (vs : List ℕ) → take n l ++ sets (drop n l) i vs ≡ sets l (n + i) vs
-sets-behind l n i [] = take-append-drop n l
-sets-behind l n i (v ∷ vs) =
-    rw (← drop-set-add n l i v, ← take-set-le n l (n + i) v (omega arith))
-    (sets-behind (set l (n + i) v) n (suc i) vs ∙ ap (λ (k : ℕ). sets (set l (n + i) v) k vs) (add-suc n i))
-
--- from a place on, or from the end where there is none, in the part that the code lends
-pub sets-from : (l : List ℕ) (at from : ℕ) → from ≡ min at (length l) → (vs : List ℕ) →
-    take from l ++ (sets (take (length l - from) (drop from l)) 0 vs ++ drop (length l - from) (drop from l)) ≡ sets l at vs
-sets-from l at from clipped vs =
-    let all : length (drop from l) ≤ length l - from = omega (arith, length-drop from l) in
-    rw (take-all (length l - from) (drop from l) all, drop-of-length-le (drop from l) all, append-nil (sets (drop from l) 0 vs))
-    (sets-behind l from 0 vs
-    ∙ dite (decLe at (length l)) (λ there. let n : from + 0 ≡ at = omega (arith, clipped, there) in ap (λ (k : ℕ). sets l k vs) n)
-    (λ past. sets-past l (from + 0) vs (omega (arith, clipped, past)) ∙ sym (sets-past l at vs (omega (arith, past)))))
 
 pub rack-next : (records : List ℕ) (board : Board) (place count : ℕ) → place < count → length (packed (tagAt board place)) ≡ 80 →
     sets (sets records (place * 80) (packed (tagAt board place))) ((place + 1) * 80) (rackFrom board (place + 1) (count - (place + 1)))

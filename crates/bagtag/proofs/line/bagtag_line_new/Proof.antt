@@ -9,7 +9,6 @@ use Rattle.board.specs.Board.Laws.{counted}
 use Rattle.rack.specs.Rack.{hasRoom}
 use Rattle.rack.specs.Rack.Back.{fills}
 use Rattle.rack.specs.Rack.Laws.{room}
-use Rattle.bagtag.specs.Line.{asked}
 use Rattle.bagtag.specs.Line.Laws.{new-made, new-short}
 use Rattle.bagtag.proofs.line.bagtag_line_new.Statement.{statement}
 use Rattle.bagtag.proofs.line.bagtag_line_new.Tie as tie
