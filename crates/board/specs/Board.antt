@@ -13,7 +13,6 @@ use Rattle.record.specs.Record.{Outcome, goodNumber, goodCode, tagInRange, fres
 use Rattle.tag.specs.Tag.{newTag, eventOf}
 use Rattle.board.specs.declared.Board.{Board}
 use Rattle.board.specs.declared.Shown.{Shown}
-pub mod Kept
 pub mod Laws
 pub mod Numbers
 pub mod Places

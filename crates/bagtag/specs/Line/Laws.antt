@@ -15,8 +15,8 @@ use Rattle.bits.specs.Choose.{if_then_else_, either, choice}
 use Rattle.bits.specs.Each.{each}
 use Rattle.board.specs.declared.Board.{Board}
 use Rattle.board.specs.Board.{tagAt, isCount, Left, judgedBy, judged, lineStep, newJudged, emptyBoard, newLine}
-use Rattle.board.specs.Board.Kept.{kept, step-answer}
-use Rattle.board.specs.Board.Laws.{passed, judged-by}
+use Rattle.board.specs.Board.Visits.{line-stays}
+use Rattle.board.specs.Board.Laws.{passed, judged-by, line-answer}
 use Rattle.rack.specs.Rack.{hasRoom, isRack, boardIn, sameHeld, rackOf}
 use Rattle.rack.specs.Rack.Back.{same-racked}
 use Rattle.record.specs.declared.Tag.{Tag}
@@ -123,8 +123,8 @@ module _ (block records : List ℕ) (count code place reading : ℕ) where
   unfolding boardIn judged
   done-counted none =
       let board = boardIn records count in
-      let same = kept block board code place reading .count in
-      let p = passed count (length block) _ _ code place reading (sym (ap answerNumber (step-answer block board code place reading)) ∙ none) in
+      let same = line-stays block board code place reading .count in
+      let p = passed count (length block) _ _ code place reading (sym (ap answerNumber (line-answer block board code place reading)) ∙ none) in
       (rw same (p .few), same)
 
   pub line-judged : isRack records count ≡ false →
@@ -158,7 +158,7 @@ module _ (block records : List ℕ) (count code place reading : ℕ) where
       by true own =
           rw own
           (ap answerNumber
-          (step-answer block board code place reading
+          (line-answer block board code place reading
           ∙ sym (judged-by (length block) board (sameHeld records count) ranged code place reading (λ few. (same-racked records count own few, refl)))))
       by false bad = rw bad
 

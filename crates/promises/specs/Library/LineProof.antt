@@ -18,7 +18,7 @@ use Rattle.bits.specs.Bits.{digit}
 use Rattle.bits.specs.Each.{each, each-holds, each-fails, each-same}
 use Rattle.board.specs.declared.Board.{Board}
 use Rattle.board.specs.Board.{tagAt, isCount, namesNone, isHigh, sameNumber, judgedBy, Left, lineStep, newFault, newJudged, emptyBoard, newLine}
-use Rattle.board.specs.Board.Kept.{kept, kept-new, step-answer}
+use Rattle.board.specs.Board.Visits.{Stays, line-stays, new-stays}
 use Rattle.board.specs.Board.Laws as board-laws
 use Rattle.board.specs.Board.Laws.{places-counted, counted}
 use Rattle.board.specs.Board.Numbers.{same-found, same-none}
@@ -283,9 +283,12 @@ zeros-left records numbers = by (isCount (length numbers)) refl (eqb (length rec
 module _ (block records numbers codes : List ℕ) (had : hasRoom (length records) (length numbers) ≡ true)
     (zero : answerNumber (newLine block numbers codes .shown .answer) ≡ 0)
     (fit : AllFit (asked (length numbers) (newLine block numbers codes))) where
+  stays : Stays (length numbers) block (emptyBoard (length numbers)) (newLine block numbers codes .block) (newLine block numbers codes .shown .board)
+  stays = new-stays block numbers codes (ap answerNumber (sym (board-laws.new-answer block numbers codes)) ∙ zero)
+
   made-count : newLine block numbers codes .shown .board .count ≡ length numbers
   unfolding emptyBoard
-  made-count = kept-new block numbers codes zero .count
+  made-count = stays .count
 
   asked-is : asked (length numbers) (newLine block numbers codes) ≡ newLine block numbers codes .shown .board
   asked-is = λ i. record { tags = newLine block numbers codes .shown .board .tags; count = sym made-count i }
@@ -294,15 +297,15 @@ module _ (block records numbers codes : List ℕ) (had : hasRoom (length records
   unfolding emptyBoard isCount
   made-lined =
       let board = newLine block numbers codes .shown .board in
-      let k = kept-new block numbers codes zero in
+      let k = stays in
       let r = room (length records) (length numbers) had in
       let fits : AllFit board = subst AllFit asked-is fit in
       record {
         few = rw made-count (r .few);
-        size = k .size;
+        size = k .tags;
         holds = λ i h.
             holds-of (tagAt board i) (fits i (omega (arith, h, made-count, places-counted (board .count) (rw made-count (r .few)))));
-        rest = λ i h. k .rest i (omega (arith, h, made-count)) ∙ tag-zeros (length numbers) i;
+        rest = λ i h. k .past i (omega (arith, h, made-count)) ∙ tag-zeros (length numbers) i;
       }
 
 -- ---- a line that is kept
@@ -326,19 +329,19 @@ module _ (board : Board) (lined : Lined board) where
     same-board : answerNumber (left .shown .answer) ≢ 0 → left .shown .board ≡ board
     same-board fault =
         ap (λ (l : Left). l .shown .board)
-        (board-laws.line-refused block board code place reading (λ zero. fault (ap answerNumber (step-answer block board code place reading) ∙ zero)))
+        (board-laws.line-refused block board code place reading (λ zero. fault (ap answerNumber (board-laws.line-answer block board code place reading) ∙ zero)))
 
     keeps-lined : (answerNumber (left .shown .answer) ≡ 0 → AllFit (left .shown .board)) → Lined (left .shown .board)
     keeps-lined fit =
         dite (ℕ-discrete (answerNumber (left .shown .answer)) 0)
         (λ zero.
-        let k = kept block board code place reading in
+        let k = line-stays block board code place reading in
         let few : isCount (left .shown .board .count) ≡ true = rw (k .count) few-lined in
         record {
           few = rw (k .count) (lined .few);
-          size = k .size ∙ lined .size;
+          size = k .tags ∙ lined .size;
           holds = λ i h. holds-of (tagAt (left .shown .board) i) (fit zero i (omega (arith, h, places-counted (left .shown .board .count) few)));
-          rest = λ i h. k .rest i (omega (arith, h, k .count)) ∙ lined .rest i (omega (arith, h, k .count));
+          rest = λ i h. k .past i (omega (arith, h, k .count)) ∙ lined .rest i (omega (arith, h, k .count));
         })
         (λ some. rw (same-board some) lined)
 
