@@ -145,15 +145,13 @@ pub record OneTag : Type 0 where
 
 -- ---- 2. demand 1
 
--- one of these numbers stands twice
-unfoldable pub twice : List ℕ → Bool
-twice [] = false
-twice (n ∷ ns) = among ns n || twice ns
+-- some place below n passes a test; and two of them have the same number
+unfoldable pub some : ℕ → (ℕ → Bool) → Bool
+some zero test = false
+some (suc n) test = test n || some n test
 
--- the numbers of so many tags, from a place on
-unfoldable pub numbersOf : Line → ℕ → ℕ → List ℕ
-numbersOf l place zero = []
-numbersOf l place (suc left) = numberOf (tagAt l place) ∷ numbersOf l (suc place) left
+abbrev pub twice : ℕ → (ℕ → ℕ) → Bool
+twice n number = some n (λ i. some i (λ j. eqb (number i) (number j)))
 
 -- "a count of 0 or above 7"
 abbrev pub isMany : ℕ → Bool
@@ -165,7 +163,7 @@ unfoldable pub lineNumber : Line → ℕ → ℕ → ℕ → ℕ
 lineNumber l code place reading =
     if not (isMany (countOf l)) || (eqb code 3 && leb (countOf l) place) then 14
     else if not (eqb (length (l .block)) (countOf l * 8832)) then 3
-    else if twice (numbersOf l 0 (countOf l)) then 13
+    else if twice (countOf l) (λ i. numberOf (tagAt l i)) then 13
     else if not (each (countOf l) (λ i. inRange (tagAt l i .tag))) then 6
     else ownNumber code reading
 
@@ -182,7 +180,7 @@ unfoldable pub newNumber : List ℕ → List ℕ → List ℕ → ℕ
 newNumber block numbers codes =
     if not (isMany (length numbers)) || not (eqb (length codes) (length numbers)) then 14
     else if not (eqb (length block) (length numbers * 8832)) then 3
-    else if twice numbers then 13
+    else if twice (length numbers) (λ i. getD numbers i 0) then 13
     else firstFault numbers codes
 
 -- what a call returned, and left in the block: the number is this one, and "a refusal changes no tag", with these records and this block

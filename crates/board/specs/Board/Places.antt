@@ -9,6 +9,7 @@ use native.Mathlib.Nat.{le-of-suc-le-suc, not-suc-le-zero}
 use native.Mathlib.Omega.{arith}
 use lib.ListN.{length, getD, take, drop, length-append, length-drop, take-append-drop, List·getD-append}
 use lib.Seq.{length-take-le, getD-set-same, getD-set-other, take-at, drop-at, ext-getD, getD-take, getD-drop, getD-append-add}
+use Rattle.bits.specs.Parts.{part-lent, length-part}
 use Rattle.record.specs.declared.Tag.{Tag}
 use Rattle.board.specs.Board.{imageAt, withImage, tagAt, withTag}
 use Rattle.board.specs.declared.Board.{Board}
@@ -32,7 +33,7 @@ module _ (block : List ℕ) (place : ℕ) where
   -- the part of a block that the code lends, and the block when it comes back
   pub part-is : take (place * 8832 + 8832 - place * 8832) (drop (place * 8832) block) ≡ imageAt block place
   unfolding imageAt
-  part-is = ap (λ (n : ℕ). take n (drop (place * 8832) block)) part-length
+  part-is = part-lent 8832 block place
 
   pub put-is : (image : List ℕ) →
       take (place * 8832) block ++ (image ++ drop (place * 8832 + 8832 - place * 8832) (drop (place * 8832) block)) ≡ withImage block place image
@@ -42,7 +43,7 @@ module _ (block : List ℕ) (place : ℕ) where
   module _ (has : Has block place) where
     pub length-image : length (imageAt block place) ≡ 8832
     unfolding imageAt
-    length-image = length-take-le 8832 (drop (place * 8832) block) (omega (arith, length-drop (place * 8832) block, has))
+    length-image = length-part 8832 block place (omega (arith, has))
 
     -- what stands before a place, and behind it
     length-before : length (take (place * 8832) block) ≡ place * 8832

@@ -1,7 +1,7 @@
 -- The library for C on several tags (request #106; crates `rack` and `bagtag`; include/bagtag.h): the numbers of both calls for any bytes at
 -- all, what a refusal leaves, and that from `bagtag_line_new` on each call is `lineStep` on a line whose records are the bytes lent.
--- `libraryLine` in LineProof.antt proves it. Assumes nothing.
-use mathlib.Core.Bool.{Bool, true, false, not, _&&_, _||_}
+-- `library-line` in LineProof.antt proves it. Assumes nothing.
+use mathlib.Core.Bool.{Bool, true, not, _&&_, _||_}
 use mathlib.Core.List.{List, [], _∷_, _++_}
 use mathlib.Core.Logic.{_≢_}
 use mathlib.Core.Path.{_≡_}
@@ -11,33 +11,17 @@ use lib.ListN.{length, getD, replicate, take, drop}
 use denote.Ref.{now}
 use Rattle.bagtag.proofs.line.bagtag_line_event.Reads as bagtag-line-event
 use Rattle.bagtag.proofs.line.bagtag_line_new.Reads as bagtag-line-new
+use Rattle.bits.specs.Each.{each}
 use Rattle.board.specs.declared.Board.{Board}
 use Rattle.board.specs.Board.{tagAt, lineStep, newLine}
 use Rattle.packing.specs.Packing.{packed}
 use Rattle.rack.specs.Rack.{rackOf}
 use Rattle.promises.specs.Library.{wordIn, digitOf, Holds, isRecord}
-use Rattle.promises.specs.Ranges.{isRom, isConfiguration}
 use Rattle.promises.specs.Sentences.Events.{numberIn, ownNumber, clearTag}
+use Rattle.promises.specs.Several.{twice, isMany, firstFault}
 use Rattle.promises.specs.Words.{if_then_else_}
 
--- ---- places
-
--- each place below n passes a test, or some place does
-unfoldable pub every : ℕ → (ℕ → Bool) → Bool
-every zero f = true
-every (suc n) f = f n && every n f
-
-unfoldable pub some : ℕ → (ℕ → Bool) → Bool
-some zero f = false
-some (suc n) f = f n || some n f
-
--- two places below n have the same number
-abbrev pub twice : ℕ → (ℕ → ℕ) → Bool
-twice n number = some n (λ i. some i (λ j. eqb (number i) (number j)))
-
--- "a count of 0 or above 7" is none
-abbrev pub isLine : ℕ → Bool
-isLine count = leb 1 count && leb count 7
+-- ---- records
 
 -- records stand side by side: that at a place
 unfoldable pub recordIn : List ℕ → ℕ → List ℕ
@@ -57,37 +41,29 @@ zerosOf (suc n) = (1 ∷ replicate 79 0) ++ zerosOf n
 
 -- ---- the numbers
 
--- "place by place 4, 5": so many are left, from a place on
-unfoldable pub faultFrom : List ℕ → List ℕ → ℕ → ℕ → ℕ
-faultFrom numbers codes place zero = 0
-faultFrom numbers codes place (suc left) =
-    if not (isRom (getD numbers place 0)) then 4
-    else if not (isConfiguration (getD codes place 0)) then 5
-    else faultFrom numbers codes (place + 1) left
-
 -- "14, 3, 13, then place by place 4, 5": 14 also for another number of codes than of numbers, and 6, for the records' length, before 4
 unfoldable pub newLineNumber : List ℕ → List ℕ → List ℕ → List ℕ → ℕ
 newLineNumber block records numbers codes =
-    if not (isLine (length numbers) && eqb (length codes) (length numbers)) then 14
+    if not (isMany (length numbers)) || not (eqb (length codes) (length numbers)) then 14
     else if not (eqb (length block) (length numbers * 8832)) then 3
     else if twice (length numbers) (λ i. getD numbers i 0) then 13
     else if not (eqb (length records) (length numbers * 80)) then 6
-    else faultFrom numbers codes 0 (length numbers)
+    else firstFault numbers codes
 
 -- "14, 3, 13, then 6 over all the count's records, then 1, 2"; 14 also for "a tick whose place isn't below the count"
 unfoldable pub lineNumber : List ℕ → List ℕ → ℕ → ℕ → ℕ → ℕ → ℕ
 lineNumber block records count code place reading =
-    if not (isLine count) || (eqb code 3 && leb count place) then 14
+    if not (isMany count) || (eqb code 3 && leb count place) then 14
     else if not (eqb (length block) (count * 8832)) then 3
     else if twiceIn records count then 13
-    else if not (eqb (length records) (count * 80) && every count (λ i. isRecord (recordIn records i))) then 6
+    else if not (eqb (length records) (count * 80) && each count (λ i. isRecord (recordIn records i))) then 6
     else ownNumber code reading
 
 -- ---- a line whose records a caller keeps
 
 -- one to seven tags, their records as the types say, and past them those of all zeros
 pub record Lined (board : Board) : Type 0 where
-  pub few : isLine (board .count) ≡ true
+  pub few : isMany (board .count) ≡ true
   pub size : length (board .tags) ≡ 7
   pub holds : (i : ℕ) → i < board .count → Holds (tagAt board i)
   pub rest : (i : ℕ) → board .count ≤ i → tagAt board i ≡ clearTag 0 0
@@ -110,7 +86,7 @@ pub record LibraryLine : Type 2 where
       (r ≡ newLineNumber (now block) (now records) (now numbers) (now codes))
       × (r ≢ 0 → (now (exit .0) ≡ now block)
       × (now (exit .1 .0)
-      ≡ (if isLine (length (now numbers)) && eqb (length (now records)) (length (now numbers) * 80) then zerosOf (length (now numbers))
+      ≡ (if isMany (length (now numbers)) && eqb (length (now records)) (length (now numbers) * 80) then zerosOf (length (now numbers))
       else now records)))
   -- an event: "a refusal changes no tag", so no byte of block and records, and the line is 1
   pub events : (κs : _) (block : _) (records : _) (count code place reading : ℕ) (line : _) (r : ℕ) (exit : _) →

@@ -1,93 +1,45 @@
 -- The library's calls to a line are the board's, through the bytes of its records. Assumes nothing.
-use mathlib.Core.Bool.{Bool, true, false, not, _&&_, _||_, false≢true}
-use mathlib.Core.List.{List, _++_}
+use mathlib.Core.Bool.{Bool, true, false, not, _&&_, _||_}
+use mathlib.Core.List.{List, [], _∷_, _++_}
 use mathlib.Core.Logic.{_≢_, dite}
 use mathlib.Core.Path.{_≡_, refl, sym, ap, subst, _∙_}
-use Prim.Native.Nat.{ℕ, zero, suc, _+_, _*_, _/_, _≤_, _<_, min}
+use Prim.Native.Nat.{ℕ, zero, suc, _+_, _*_, _/_, _≤_, min}
 use native.Mathlib.Decide.{decLt, ℕ-discrete}
 use native.Mathlib.Omega.{arith}
-use borrow.Author.Tests.{eqb-true, eq-eqb, ne-eqb, not-true, not-false}
+use borrow.Author.Tests.{eq-eqb, ne-eqb}
 use lib.Dec.{eqb, leb, ltb}
 use lib.ListN.{length, getD, replicate, getD-replicate, List·getD-eq-default}
 use denote.Ref.{now}
 use Rattle.answer.specs.Answer.{answerNumber}
 use Rattle.answer.specs.declared.Answer.{Answer}
 use Rattle.bagtag.specs.Line.{NewLine, asked, shortNumber, newLineCall, LineEvent, lineCall}
-use Rattle.bagtag.specs.Line.Laws.{new-made, new-number, new-refused, line-number, line-left}
+use Rattle.bagtag.specs.Line.Laws as calls
+use Rattle.bagtag.specs.Line.Laws.{new-made, new-refused, line-number, line-left}
 use Rattle.bits.specs.Bits.{digit}
-use Rattle.bits.specs.Each.{each, each-holds, each-fails, each-same}
+use Rattle.bits.specs.Each.{each, each-same}
 use Rattle.board.specs.declared.Board.{Board}
-use Rattle.board.specs.Board.{tagAt, isCount, namesNone, isHigh, sameNumber, judgedBy, Left, lineStep, newFault, newJudged, emptyBoard, newLine}
+use Rattle.board.specs.Board.{tagAt, isCount, namesNone, isHigh, sameNumber, judgedBy, Left, lineStep, emptyBoard, newLine}
 use Rattle.board.specs.Board.Visits.{Stays, line-stays, new-stays}
 use Rattle.board.specs.Board.Laws as board-laws
 use Rattle.board.specs.Board.Laws.{places-counted, counted}
-use Rattle.board.specs.Board.Numbers.{same-found, same-none}
 use Rattle.image.specs.Fields.{wordAt}
 use Rattle.packing.specs.Packing.{packed, isPacked, unpacked}
 use Rattle.rack.specs.Rack.{hasRoom, recordAt, isRack, boardIn, numberHeld, wholeIn, sameHeld, rackFrom, rackOf, AllFit}
 use Rattle.rack.specs.Rack.Back.{length-rack, record-rack, own-rack, rack-back, tag-racked}
 use Rattle.rack.specs.Rack.Laws.{room}
-use Rattle.record.specs.Record.{freshTag, goodCode, tagInRange}
+use Rattle.record.specs.Record.{freshTag, tagInRange}
 use Rattle.select.specs.Select.{modeOf}
 use Rattle.promises.specs.Library.{isRecord}
-use Rattle.promises.specs.Library.Line.{every, some, twice, isLine, recordIn, romIn, twiceIn, zerosOf, faultFrom, newLineNumber, lineNumber, Lined, LibraryLine}
+use Rattle.promises.specs.Library.Line.{recordIn, romIn, twiceIn, zerosOf, newLineNumber, lineNumber, Lined, LibraryLine}
 use Rattle.promises.specs.Library.Proof.{zeros-packed}
 use Rattle.promises.specs.Library.Record.{fits-of, holds-of}
 use Rattle.promises.specs.Ranges.{isRom, isConfiguration, inRange}
 use Rattle.promises.specs.Ranges.Laws.{range-is}
 use Rattle.promises.specs.Sentences.Events.{numberIn, ownNumber, clearTag}
-use Rattle.promises.specs.Sentences.Events.Proof.{numbered, rom-is}
+use Rattle.promises.specs.Sentences.Events.Proof.{numbered}
+use Rattle.promises.specs.Several.{twice, isMany, firstFault, newNumber}
+use Rattle.promises.specs.Several.Numbers.{twice-is, new-number}
 use Rattle.promises.specs.Words.{if_then_else_}
-
--- ---- places
-
-every-is : (n : ℕ) (f : ℕ → Bool) → every n f ≡ each n f
-unfolding every
-every-is zero f = refl
-every-is (suc n) f = ap (λ (b : Bool). f n && b) (every-is n f)
-
-some-is : (n : ℕ) (f : ℕ → Bool) → some n f ≡ not (each n (λ i. not (f i)))
-unfolding some
-some-is zero f = refl
-some-is (suc n) f = by (f n) (some-is n f)
-  where
-    by : (b : Bool) → some n f ≡ not (each n (λ i. not (f i))) → (b || some n f) ≡ not (not b && each n (λ i. not (f i)))
-    by true e = refl
-    by false e = e
-
--- where the test passes, if it does
-record Found (n : ℕ) (f : ℕ → Bool) : Type 0 where
-  pub at : ℕ
-  pub below : at < n
-  pub passes : f at ≡ true
-
-some-found : (n : ℕ) (f : ℕ → Bool) → some n f ≡ true → Found n f
-some-found n f e =
-    let fails = each-fails n (λ i. not (f i)) (not-true _ (sym (some-is n f) ∙ e)) in
-    record { at = fails .at; below = fails .below; passes = not-false _ (fails .fails) }
-
-some-none : (n : ℕ) (f : ℕ → Bool) → some n f ≡ false → (i : ℕ) → i < n → f i ≡ false
-some-none n f e i h = not-true _ (each-holds n (λ k. not (f k)) (not-false _ (sym (some-is n f) ∙ e)) i h)
-
-twice-is : (n : ℕ) (number : ℕ → ℕ) → twice n number ≡ sameNumber n number
-twice-is n number = by (twice n number) refl
-  where
-    own : twice n number ≡ false → (i j : ℕ) → j < i → i < n → number i ≡ number j → ⊥
-    own e i j below h same =
-        false≢true
-        (sym (some-none i (λ k. eqb (number i) (number k)) (some-none n (λ k. some k (λ m. eqb (number k) (number m))) e i h) j below)
-        ∙ eq-eqb (number i) (number j) same)
-
-    by : (b : Bool) → twice n number ≡ b → twice n number ≡ sameNumber n number
-    by true e =
-        let first = some-found n (λ i. some i (λ j. eqb (number i) (number j))) e in
-        let second = some-found (first .at) (λ j. eqb (number (first .at)) (number j)) (first .passes) in
-        e ∙ sym (same-found n number (first .at) (second .at) (first .below) (omega (arith, first .below, second .below))
-        (λ same. absurd (omega (arith, same, second .below))) (eqb-true _ _ (second .passes)))
-    by false e =
-        e ∙ sym (same-none n number (λ i j hi hj same.
-        dite (decLt j i) (λ lt. absurd (own e i j lt hi same))
-        (λ ge. dite (decLt i j) (λ lt. absurd (own e j i lt hj (sym same))) (λ le. omega (arith, ge, le)))))
 
 -- ---- an event
 
@@ -114,7 +66,7 @@ and-assoc false b c = refl
 
 good-is : (records : List ℕ) (count : ℕ) → isCount count ≡ true →
     (isRack records count && each count (λ i. tagInRange (tagAt (boardIn records count) i)))
-    ≡ (eqb (length records) (count * 80) && every count (λ i. isRecord (recordIn records i)))
+    ≡ (eqb (length records) (count * 80) && each count (λ i. isRecord (recordIn records i)))
 unfolding isRack recordIn recordAt
 good-is records count few =
     let bounds = counted count few in
@@ -123,14 +75,13 @@ good-is records count few =
     ap (λ (b : Bool). isRack records count && b) ranges
     ∙ and-assoc (eqb (length records) (count * 80)) (each count (λ i. isPacked (recordAt records i))) (each count (λ i. inRange (unpacked (recordAt records i))))
     ∙ ap (λ (b : Bool). eqb (length records) (count * 80) && b)
-    (each-both count (λ i. isPacked (recordAt records i)) (λ i. inRange (unpacked (recordAt records i)))
-    ∙ sym (every-is count (λ i. isRecord (recordIn records i))))
+    (each-both count (λ i. isPacked (recordAt records i)) (λ i. inRange (unpacked (recordAt records i))))
 
 -- the number of what is judged; two numbers and the records count only where the count is one
 judged-number : (count size : ℕ) (same held good fine : Bool) (code place reading : ℕ) →
     (isCount count ≡ true → (same ≡ held) × (good ≡ fine)) →
     numberIn (judgedBy count size same good code place reading)
-    ≡ (if not (isLine count) || (eqb code 3 && leb count place) then 14
+    ≡ (if not (isMany count) || (eqb code 3 && leb count place) then 14
     else if not (eqb size (count * 8832)) then 3
     else if held then 13
     else if not fine then 6
@@ -140,14 +91,14 @@ judged-number count size same held good fine code place reading known = by (isCo
   where
     by : (few : Bool) → isCount count ≡ few →
         numberIn (judgedBy count size same good code place reading)
-        ≡ (if not (isLine count) || (eqb code 3 && leb count place) then 14
+        ≡ (if not (isMany count) || (eqb code 3 && leb count place) then 14
         else if not (eqb size (count * 8832)) then 3
         else if held then 13
         else if not fine then 6
         else ownNumber code reading)
     by true few =
         (λ i. numberIn (judgedBy count size (known few .0 i) (known few .1 i) code place reading))
-        ∙ numbered (not (isLine count) || (eqb code 3 && leb count place)) Answer.TagPlace _ refl
+        ∙ numbered (not (isMany count) || (eqb code 3 && leb count place)) Answer.TagPlace _ refl
         (numbered (not (eqb size (count * 8832))) Answer.ImageLength _ refl
         (numbered held Answer.SameNumber _ refl
         (numbered (not fine) Answer.RecordRange _ refl
@@ -164,23 +115,15 @@ event-number block records count code place reading =
 
 -- ---- a new line
 
-fault-number : (numbers codes : List ℕ) (place left : ℕ) → numberIn (newFault numbers codes place left) ≡ faultFrom numbers codes place left
-unfolding newFault faultFrom goodCode
-fault-number numbers codes place zero = refl
-fault-number numbers codes place (suc left) =
-    rw (← rom-is (getD numbers place 0))
-    (numbered (not (isRom (getD numbers place 0))) Answer.RomNumber _ refl
-    (numbered (not (isConfiguration (getD codes place 0))) Answer.Configuration _ refl (fault-number numbers codes (place + 1) left)))
-
 -- 6 stands before these
-short-fault : (numbers codes : List ℕ) (place left : ℕ) → shortNumber (faultFrom numbers codes place left) ≡ 6
-unfolding faultFrom shortNumber
-short-fault numbers codes place zero = refl
-short-fault numbers codes place (suc left) =
-    by (not (isRom (getD numbers place 0))) (not (isConfiguration (getD codes place 0))) (short-fault numbers codes (place + 1) left)
+short-fault : (numbers codes : List ℕ) → shortNumber (firstFault numbers codes) ≡ 6
+unfolding firstFault shortNumber
+short-fault [] codes = refl
+short-fault (number ∷ numbers) [] = refl
+short-fault (number ∷ numbers) (code ∷ codes) = by (not (isRom number)) (not (isConfiguration code)) (short-fault numbers codes)
   where
-    by : (a b : Bool) → shortNumber (faultFrom numbers codes (place + 1) left) ≡ 6 →
-        shortNumber (if a then 4 else if b then 5 else faultFrom numbers codes (place + 1) left) ≡ 6
+    by : (a b : Bool) → shortNumber (firstFault numbers codes) ≡ 6 →
+        shortNumber (if a then 4 else if b then 5 else firstFault numbers codes) ≡ 6
     by true b e = refl
     by false true e = refl
     by false false e = e
@@ -189,38 +132,29 @@ module _ (block records numbers codes : List ℕ) where
   -- by the tests, one by one
   firsts : (few many whole same fits : Bool) → ℕ
   firsts few many whole same fits =
-      if not (few && many) then 14
+      if not few || not many then 14
       else if not whole then 3
       else if same then 13
       else if not fits then 6
-      else faultFrom numbers codes 0 (length numbers)
+      else firstFault numbers codes
 
   new-number-is : newLineCall block records numbers codes .number ≡ newLineNumber block records numbers codes
-  unfolding newLineNumber newJudged hasRoom isCount shortNumber firsts
+  unfolding newLineNumber newNumber hasRoom isCount shortNumber firsts
   new-number-is =
       let count = length numbers in
-      let told : answerNumber (newJudged (length block) numbers codes)
-      ≡ (if not (isLine count && eqb (length codes) count) then 14
-      else if not (eqb (length block) (count * 8832)) then 3
-      else if twice count (λ i. getD numbers i 0) then 13
-      else faultFrom numbers codes 0 count) =
-      rw (← twice-is count (λ i. getD numbers i 0))
-      (numbered (not (isLine count && eqb (length codes) count)) Answer.TagPlace _ refl
-      (numbered (not (eqb (length block) (count * 8832))) Answer.ImageLength _ refl
-      (numbered (twice count (λ i. getD numbers i 0)) Answer.SameNumber _ refl (fault-number numbers codes 0 count)))) in
-      new-number block records numbers codes
-      ∙ rw told
-      (by (isLine count) (eqb (length codes) count) (eqb (length block) (count * 8832)) (twice count (λ i. getD numbers i 0))
-      (eqb (length records) (count * 80)) (short-fault numbers codes 0 count))
+      calls.new-number block records numbers codes
+      ∙ rw (ap numberIn (sym (board-laws.new-answer block numbers codes)) ∙ new-number block numbers codes)
+      (by (isMany count) (eqb (length codes) count) (eqb (length block) (count * 8832)) (twice count (λ i. getD numbers i 0))
+      (eqb (length records) (count * 80)) (short-fault numbers codes))
     where
       first : (few many whole same : Bool) → ℕ
       first few many whole same =
-          if not (few && many) then 14
+          if not few || not many then 14
           else if not whole then 3
           else if same then 13
-          else faultFrom numbers codes 0 (length numbers)
+          else firstFault numbers codes
 
-      by : (few many whole same fits : Bool) → shortNumber (faultFrom numbers codes 0 (length numbers)) ≡ 6 →
+      by : (few many whole same fits : Bool) → shortNumber (firstFault numbers codes) ≡ 6 →
           (if few && fits then first few many whole same else shortNumber (first few many whole same)) ≡ firsts few many whole same fits
       by false many whole same fits e = refl
       by true false whole same true e = refl
@@ -236,7 +170,7 @@ module _ (block records numbers codes : List ℕ) where
   had-room : newLineNumber block records numbers codes ≡ 0 → hasRoom (length records) (length numbers) ≡ true
   unfolding newLineNumber hasRoom isCount firsts
   had-room =
-      by (isLine (length numbers)) (eqb (length codes) (length numbers)) (eqb (length block) (length numbers * 8832))
+      by (isMany (length numbers)) (eqb (length codes) (length numbers)) (eqb (length block) (length numbers * 8832))
       (twice (length numbers) (λ i. getD numbers i 0)) (eqb (length records) (length numbers * 80))
     where
       by : (few many whole same fits : Bool) → firsts few many whole same fits ≡ 0 → (few && fits) ≡ true
@@ -268,7 +202,7 @@ rack-zeros count place (suc left) =
 
 zeros-left : (records numbers : List ℕ) →
     (if hasRoom (length records) (length numbers) then rackOf (emptyBoard (length numbers)) else records)
-    ≡ (if isLine (length numbers) && eqb (length records) (length numbers * 80) then zerosOf (length numbers) else records)
+    ≡ (if isMany (length numbers) && eqb (length records) (length numbers * 80) then zerosOf (length numbers) else records)
 unfolding hasRoom isCount rackOf emptyBoard
 zeros-left records numbers = by (isCount (length numbers)) refl (eqb (length records) (length numbers * 80))
   where
@@ -361,9 +295,9 @@ module _ (board : Board) (lined : Lined board) where
 
 -- ---- all together
 
-pub libraryLine : LibraryLine
+pub library-line : LibraryLine
 unfolding recordIn recordAt
-libraryLine =
+library-line =
     record {
       laid = λ board lined.
           (length-rack board (few-lined board lined) (fit-lined board lined), record-rack board (few-lined board lined) (fit-lined board lined));

@@ -1,140 +1,88 @@
 -- The numbers of a line's answers, by what stands in the line. Assumes nothing.
 use mathlib.Core.Path.{_≡_, refl, sym, ap, _∙_}
 use mathlib.Core.Bool.{Bool, true, false, not, _&&_, _||_, false≢true}
-use mathlib.Core.List.{List, [], _∷_}
-use mathlib.Core.Logic.{_≢_}
+use mathlib.Core.List.{List}
+use mathlib.Core.Logic.{dite}
 use Prim.Native.Nat.{ℕ, zero, suc, _+_, _*_, _-_, _<_}
-use native.Mathlib.Nat.{add-zero}
 use native.Mathlib.Numerals.{add-one}
+use native.Mathlib.Decide.{decLt}
 use native.Mathlib.Omega.{arith}
-use borrow.Author.Tests.{eqb-true, eqb-false}
+use borrow.Author.Tests.{eqb-true, eq-eqb, not-true, not-false}
 use lib.Dec.{eqb, leb, ltb}
 use lib.ListN.{length, getD, drop, drop-of-length-le}
 use lib.Seq.{drop-cons}
 use Rattle.answer.specs.declared.Answer.{Answer}
-use Rattle.bits.specs.Each.{each, each-same}
-use Rattle.bits.specs.Tests.{neither}
+use Rattle.bits.specs.Each.{each, each-holds, each-fails, each-same}
 use Rattle.board.specs.Board as board
 use Rattle.board.specs.Board.{lineStep, newLine, judged, judgedBy, newJudged, newFault, sameNumber, isCount, namesNone, isHigh}
 use Rattle.board.specs.Board.Laws as board-laws
-use Rattle.board.specs.Board.Numbers.{same-found, same-none, same-numbers}
+use Rattle.board.specs.Board.Numbers.{same-found, same-none, own-numbers}
 use Rattle.record.specs.Record.{goodCode, tagInRange}
 use Rattle.select.specs.Select.{modeOf}
 use Rattle.promises.specs.Ranges.{isRom, isConfiguration, inRange}
 use Rattle.promises.specs.Ranges.Laws.{range-is}
 use Rattle.promises.specs.Sentences.Events.{numberIn, ownNumber}
 use Rattle.promises.specs.Sentences.Events.Proof.{numbered, rom-is}
-use Rattle.promises.specs.Several.{Line, countOf, tagAt, twice, numbersOf, isMany, lineNumber, firstFault, newNumber}
-use Rattle.promises.specs.Words.{if_then_else_, among, numberOf}
+use Rattle.promises.specs.Several.{Line, countOf, tagAt, some, twice, isMany, lineNumber, firstFault, newNumber}
+use Rattle.promises.specs.Words.{if_then_else_, numberOf}
 
--- ---- one number among others, and one that stands twice
+-- ---- two of the same
 
-record Stands (ns : List ℕ) (n : ℕ) : Type 0 where
-  at : ℕ
-  below : at < length ns
-  is : getD ns at 0 ≡ n
-
-among-where : (ns : List ℕ) (n : ℕ) → among ns n ≡ true → Stands ns n
-unfolding among
-among-where [] n = λ e. absurd (false≢true e)
-among-where (this ∷ these) n = by (eqb n this) refl (among-where these n)
+some-is : (n : ℕ) (f : ℕ → Bool) → some n f ≡ not (each n (λ i. not (f i)))
+unfolding some
+some-is zero f = refl
+some-is (suc n) f = by (f n) (some-is n f)
   where
-    by : (b : Bool) → eqb n this ≡ b → (among these n ≡ true → Stands these n) → (b || among these n) ≡ true → Stands (this ∷ these) n
-    by true p rest e = record { at = 0; below = omega arith; is = sym (eqb-true n this p) }
-    by false p rest e =
-        let s = rest e in record { at = suc (s .at); below = omega (arith, s .below); is = s .is }
+    by : (b : Bool) → some n f ≡ not (each n (λ i. not (f i))) → (b || some n f) ≡ not (not b && each n (λ i. not (f i)))
+    by true e = refl
+    by false e = e
 
-among-not : (ns : List ℕ) (n : ℕ) → among ns n ≡ false → (i : ℕ) → i < length ns → getD ns i 0 ≢ n
-unfolding among
-among-not [] n e i h same = absurd (omega (arith, h))
-among-not (this ∷ these) n e zero h same = eqb-false n this (neither (eqb n this) (among these n) e .0) (sym same)
-among-not (this ∷ these) n e (suc i) h same = among-not these n (neither (eqb n this) (among these n) e .1) i (omega (arith, h)) same
+-- where the test passes, if it does
+record Found (n : ℕ) (f : ℕ → Bool) : Type 0 where
+  pub at : ℕ
+  pub below : at < n
+  pub passes : f at ≡ true
 
-record Pair (ns : List ℕ) : Type 0 where
-  first : ℕ
-  second : ℕ
-  in-first : first < length ns
-  in-second : second < length ns
-  apart : first ≢ second
-  same : getD ns first 0 ≡ getD ns second 0
+some-found : (n : ℕ) (f : ℕ → Bool) → some n f ≡ true → Found n f
+some-found n f e =
+    let fails = each-fails n (λ i. not (f i)) (not-true _ (sym (some-is n f) ∙ e)) in
+    record { at = fails .at; below = fails .below; passes = not-false _ (fails .fails) }
 
-twice-where : (ns : List ℕ) → twice ns ≡ true → Pair ns
-unfolding twice
-twice-where [] = λ e. absurd (false≢true e)
-twice-where (n ∷ ns) = by (among ns n) refl (twice-where ns)
+some-none : (n : ℕ) (f : ℕ → Bool) → some n f ≡ false → (i : ℕ) → i < n → f i ≡ false
+some-none n f e i h = not-true _ (each-holds n (λ k. not (f k)) (not-false _ (sym (some-is n f) ∙ e)) i h)
+
+pub twice-is : (n : ℕ) (number : ℕ → ℕ) → twice n number ≡ sameNumber n number
+twice-is n number = by (twice n number) refl
   where
-    by : (b : Bool) → among ns n ≡ b → (twice ns ≡ true → Pair ns) → (b || twice ns) ≡ true → Pair (n ∷ ns)
-    by true p rest e =
-        let s = among-where ns n p in
-        record {
-          first = 0;
-          second = suc (s .at);
-          in-first = omega arith;
-          in-second = omega (arith, s .below);
-          apart = λ e. absurd (omega (arith, e));
-          same = sym (s .is);
-        }
-    by false p rest e =
-        let s = rest e in
-        record {
-          first = suc (s .first);
-          second = suc (s .second);
-          in-first = omega (arith, s .in-first);
-          in-second = omega (arith, s .in-second);
-          apart = λ e. s .apart (omega (arith, e));
-          same = s .same;
-        }
+    own : twice n number ≡ false → (i j : ℕ) → j < i → i < n → number i ≡ number j → ⊥
+    own e i j below h same =
+        false≢true
+        (sym (some-none i (λ k. eqb (number i) (number k)) (some-none n (λ k. some k (λ m. eqb (number k) (number m))) e i h) j below)
+        ∙ eq-eqb (number i) (number j) same)
 
-pub twice-not : (ns : List ℕ) → twice ns ≡ false → (i j : ℕ) → i < length ns → j < length ns → getD ns i 0 ≡ getD ns j 0 → i ≡ j
-unfolding twice
-twice-not [] e i j hi hj same = absurd (omega (arith, hi))
-twice-not (n ∷ ns) e zero zero hi hj same = refl
-twice-not (n ∷ ns) e zero (suc j) hi hj same =
-    absurd (among-not ns n (neither (among ns n) (twice ns) e .0) j (omega (arith, hj)) (sym same))
-twice-not (n ∷ ns) e (suc i) zero hi hj same =
-    absurd (among-not ns n (neither (among ns n) (twice ns) e .0) i (omega (arith, hi)) same)
-twice-not (n ∷ ns) e (suc i) (suc j) hi hj same =
-    ap suc (twice-not ns (neither (among ns n) (twice ns) e .1) i j (omega (arith, hi)) (omega (arith, hj)) same)
-
-twice-is : (ns : List ℕ) → twice ns ≡ sameNumber (length ns) (λ i. getD ns i 0)
-twice-is ns = by (twice ns) refl
-  where
-    by : (b : Bool) → twice ns ≡ b → b ≡ sameNumber (length ns) (λ i. getD ns i 0)
+    by : (b : Bool) → twice n number ≡ b → twice n number ≡ sameNumber n number
     by true e =
-        let p = twice-where ns e in
-        sym (same-found (length ns) (λ i. getD ns i 0) (p .first) (p .second) (p .in-first) (p .in-second) (p .apart) (p .same))
-    by false e = sym (same-none (length ns) (λ i. getD ns i 0) (twice-not ns e))
+        let first = some-found n (λ i. some i (λ j. eqb (number i) (number j))) e in
+        let second = some-found (first .at) (λ j. eqb (number (first .at)) (number j)) (first .passes) in
+        e ∙ sym (same-found n number (first .at) (second .at) (first .below) (omega (arith, first .below, second .below))
+        (λ same. absurd (omega (arith, same, second .below))) (eqb-true _ _ (second .passes)))
+    by false e =
+        e ∙ sym (same-none n number (λ i j hi hj same.
+        dite (decLt j i) (λ lt. absurd (own e i j lt hi same))
+        (λ ge. dite (decLt i j) (λ lt. absurd (own e j i lt hj (sym same))) (λ le. omega (arith, ge, le)))))
+
+-- no two are
+pub twice-own : (n : ℕ) (number : ℕ → ℕ) → twice n number ≡ false → (i j : ℕ) → i < n → j < n → number i ≡ number j → i ≡ j
+twice-own n number none = own-numbers n number (sym (twice-is n number) ∙ none)
+
+pub twice-none : (n : ℕ) (number : ℕ → ℕ) → ((i j : ℕ) → i < n → j < n → number i ≡ number j → i ≡ j) → twice n number ≡ false
+twice-none n number own = twice-is n number ∙ same-none n number own
 
 -- ---- those of a line
 
-length-numbers : (l : Line) (place left : ℕ) → length (numbersOf l place left) ≡ left
-unfolding numbersOf
-length-numbers l place zero = refl
-length-numbers l place (suc left) = ap suc (length-numbers l (suc place) left)
-
-numbers-at : (l : Line) (place left i : ℕ) → i < left → getD (numbersOf l place left) i 0 ≡ numberOf (tagAt l (place + i))
-unfolding numbersOf
-numbers-at l place zero i h = absurd (omega (arith, h))
-numbers-at l place (suc left) zero h = rw (add-zero place) refl
-numbers-at l place (suc left) (suc i) h =
-    let same : suc place + i ≡ place + suc i = omega arith in
-    numbers-at l (suc place) left i (omega (arith, h)) ∙ ap (λ (n : ℕ). numberOf (tagAt l n)) same
-
-same-is : (l : Line) (count : ℕ) → sameNumber count (board.numberAt (l .board)) ≡ twice (numbersOf l 0 count)
+same-is : (l : Line) (count : ℕ) → sameNumber count (board.numberAt (l .board)) ≡ twice count (λ i. numberOf (tagAt l i))
 unfolding board.numberAt board.tagAt modeOf
-same-is l count =
-    same-numbers count (board.numberAt (l .board)) (λ i. getD (numbersOf l 0 count) i 0)
-    (λ i h.
-    let same : i ≡ 0 + i = omega arith in
-    ap (λ (n : ℕ). numberOf (tagAt l n)) same ∙ sym (numbers-at l 0 count i h))
-    ∙ ap (λ (n : ℕ). sameNumber n (λ i. getD (numbersOf l 0 count) i 0)) (sym (length-numbers l 0 count))
-    ∙ sym (twice-is (numbersOf l 0 count))
-
--- no two are the same
-pub twice-none : (l : Line) (count : ℕ) → ((i j : ℕ) → i < count → j < count → numberOf (tagAt l i) ≡ numberOf (tagAt l j) → i ≡ j) →
-    twice (numbersOf l 0 count) ≡ false
-unfolding board.numberAt board.tagAt modeOf
-twice-none l count apart = sym (same-is l count) ∙ same-none count (board.numberAt (l .board)) apart
+same-is l count = sym (twice-is count (λ i. numberOf (tagAt l i)))
 
 ranges-are : (l : Line) (count : ℕ) → each count (λ i. tagInRange (board.tagAt (l .board) i)) ≡ each count (λ i. inRange (tagAt l i .tag))
 unfolding board.tagAt modeOf
@@ -151,7 +99,7 @@ line-number l code place reading =
     ∙ rw (same-is l (countOf l), ranges-are l (countOf l))
     (numbered (not many || (eqb code 3 && leb (countOf l) place)) Answer.TagPlace _ refl
     (numbered (not (eqb (length (l .block)) (countOf l * 8832))) Answer.ImageLength _ refl
-    (numbered (twice (numbersOf l 0 (countOf l))) Answer.SameNumber _ refl
+    (numbered (twice (countOf l) (λ i. numberOf (tagAt l i))) Answer.SameNumber _ refl
     (numbered (not (each (countOf l) (λ i. inRange (tagAt l i .tag)))) Answer.RecordRange _ refl
     (numbered (ltb 4 code) Answer.EventCode _ refl (numbered (eqb code 3 && ltb 2047 reading) Answer.Reading Answer.Accepted refl refl))))))
 
@@ -187,11 +135,11 @@ new-number block numbers codes =
         (if not (eqb (length block) (length numbers * 8832)) then Answer.ImageLength
         else if sameNumber (length numbers) (λ i. getD numbers i 0) then Answer.SameNumber
         else newFault numbers codes 0 (length numbers))
-        ≡ (if not (eqb (length block) (length numbers * 8832)) then 3 else if twice numbers then 13 else firstFault numbers codes)
+        ≡ (if not (eqb (length block) (length numbers * 8832)) then 3 else if twice (length numbers) (λ i. getD numbers i 0) then 13 else firstFault numbers codes)
     rest same =
-        rw (← twice-is numbers)
+        rw (← twice-is (length numbers) (λ i. getD numbers i 0))
         (numbered (not (eqb (length block) (length numbers * 8832))) Answer.ImageLength _ refl
-        (numbered (twice numbers) Answer.SameNumber _ refl (fault-is numbers codes 0 (length numbers) same (omega arith))))
+        (numbered (twice (length numbers) (λ i. getD numbers i 0)) Answer.SameNumber _ refl (fault-is numbers codes 0 (length numbers) same (omega arith))))
 
     by : (many paired : Bool) → eqb (length codes) (length numbers) ≡ paired →
         numberIn
@@ -201,7 +149,7 @@ new-number block numbers codes =
         else newFault numbers codes 0 (length numbers))
         ≡ (if not many || not paired then 14
         else if not (eqb (length block) (length numbers * 8832)) then 3
-        else if twice numbers then 13
+        else if twice (length numbers) (λ i. getD numbers i 0) then 13
         else firstFault numbers codes)
     by true true e = rest (eqb-true (length codes) (length numbers) e)
     by true false e = refl

@@ -38,7 +38,7 @@ use Rattle.promises.specs.Sentences.Events.Proof.{number-accepts}
 use Rattle.promises.specs.Several.{Line, countOf, tagAt, Seven, LineEvent, leaves, after, Accepts, run, AllAccepted, hears, heard, OneTag, twice, isMany, lineNumber, firstFault, newNumber, Defined, outcome, noBoard, Reached, FitLine, Valid, LineDemand1, Unselected, LeftAlone, Elsewhere, Resumes, stretches, Each, TouchesNoOther}
 use Rattle.promises.specs.Several.Aside.{Opens, Listens, left-aside, reset-listens, stretch-aside, reset-plain}
 use Rattle.promises.specs.Several.Laws.{stateOf, event-remains, event-tag, run-remains, run-tag, run-line}
-use Rattle.promises.specs.Several.Numbers.{line-number, new-number, twice-not, twice-none}
+use Rattle.promises.specs.Several.Numbers.{line-number, new-number, twice-own, twice-none}
 use Rattle.promises.specs.Words.{if_then_else_, among, low, numberOf, Chosen}
 use Rattle.promises.specs.Words.Laws.{low-is}
 
@@ -107,16 +107,16 @@ record Good (block numbers codes : List ℕ) : Type 0 where
   many : isMany (length numbers) ≡ true
   paired : length codes ≡ length numbers
   size : length block ≡ length numbers * 8832
-  apart : twice numbers ≡ false
+  apart : twice (length numbers) (λ i. getD numbers i 0) ≡ false
   faultless : firstFault numbers codes ≡ 0
 
 good : (block numbers codes : List ℕ) → newNumber block numbers codes ≡ 0 → Good block numbers codes
 unfolding newNumber
 good block numbers codes =
-    by (isMany (length numbers)) (eqb (length codes) (length numbers)) (eqb (length block) (length numbers * 8832)) (twice numbers) refl refl refl refl
+    by (isMany (length numbers)) (eqb (length codes) (length numbers)) (eqb (length block) (length numbers * 8832)) (twice (length numbers) (λ i. getD numbers i 0)) refl refl refl refl
   where
     by : (m p s t : Bool) → isMany (length numbers) ≡ m → eqb (length codes) (length numbers) ≡ p → eqb (length block) (length numbers * 8832) ≡ s →
-        twice numbers ≡ t → (if not m || not p then 14 else if not s then 3 else if t then 13 else firstFault numbers codes) ≡ 0 →
+        twice (length numbers) (λ i. getD numbers i 0) ≡ t → (if not m || not p then 14 else if not s then 3 else if t then 13 else firstFault numbers codes) ≡ 0 →
         Good block numbers codes
     by true true true false m p s t e =
         record { many = m; paired = eqb-true _ _ p; size = eqb-true _ _ s; apart = t; faultless = e }
@@ -213,7 +213,7 @@ module _ (block numbers codes : List ℕ) (zero-is : newNumber block numbers cod
         size = made .2 ∙ fine .size ∙ ap (λ (n : ℕ). n * 8832) (sym (made .1));
         apart = λ i j hi hj same.
             let below : (k : ℕ) → k < countOf new → k < length numbers = λ k h. subst (λ (n : ℕ). k < n) (made .1) h in
-            twice-not numbers (fine .apart) i j (below i hi) (below j hj) (sym (tag-number i (below i hi)) ∙ same ∙ tag-number j (below j hj));
+            twice-own (length numbers) (λ i. getD numbers i 0) (fine .apart) i j (below i hi) (below j hj) (sym (tag-number i (below i hi)) ∙ same ∙ tag-number j (below j hj));
         tags = λ place h. reached-fit (tag-reached place (subst (λ (n : ℕ). place < n) (made .1) h));
       }
 
@@ -257,7 +257,7 @@ fit-number {l} fit code place reading =
     ∙ rw (
       fit .many,
       eq-eqb (length (l .block)) (countOf l * 8832) (fit .size),
-      twice-none l (countOf l) (fit .apart),
+      twice-none (countOf l) (λ i. numberOf (tagAt l i)) (fit .apart),
       each-true (countOf l) (λ i. inRange (tagAt l i .tag)) (λ i h. fit .tags i h .ranges),
     ) refl
 
