@@ -243,6 +243,8 @@ pub record LineDemand1 : Type 2 where
   -- a line reached from a new one is fit, each of its tags is reached from a new one, and it stays so
   pub reached : {l : Line} → Reached l → FitLine l × ((place : ℕ) → place < countOf l → alone.Reached (tagAt l place))
   pub stays-fit : {l : Line} (e : LineEvent) → FitLine l → Accepts l e → FitLine (after l e)
+  -- whatever code, place and reading come, refused ones too, a reached line is one again
+  pub again : {l : Line} → Reached l → (code place reading : ℕ) → Reached (leaves (lineStep (l .block) (l .board) code place reading))
   -- to a fit line the number is given by the event alone
   pub fit : {l : Line} → FitLine l → (code place reading : ℕ) →
       numberIn (lineStep (l .block) (l .board) code place reading .shown .answer)

@@ -18,7 +18,7 @@ use Rattle.packing.specs.Packing.{packed}
 use Rattle.rack.specs.Rack.{rackOf}
 use Rattle.promises.specs.Library.{wordIn, digitOf, Holds, isRecord}
 use Rattle.promises.specs.Sentences.Events.{numberIn, ownNumber, clearTag}
-use Rattle.promises.specs.Several.{twice, isMany, firstFault}
+use Rattle.promises.specs.Several.{Line, countOf, leaves, twice, isMany, firstFault, Reached}
 use Rattle.promises.specs.Words.{if_then_else_}
 
 -- ---- records
@@ -68,6 +68,13 @@ pub record Lined (board : Board) : Type 0 where
   pub holds : (i : ℕ) → i < board .count → Holds (tagAt board i)
   pub rest : (i : ℕ) → board .count ≤ i → tagAt board i ≡ clearTag 0 0
 
+-- a caller keeps this line, reached from a new one by events: its block, and its records' bytes
+pub record Keeps (images bytes : List ℕ) (l : Line) : Type 0 where
+  pub block : images ≡ l .block
+  pub records : bytes ≡ rackOf (l .board)
+  pub lined : Lined (l .board)
+  pub reached : Reached l
+
 -- ---- what holds
 
 pub record LibraryLine : Type 2 where
@@ -94,16 +101,19 @@ pub record LibraryLine : Type 2 where
       (r ≡ lineNumber (now block) (now records) count code place reading)
       × (r ≢ 0 → (now (exit .0) ≡ now block) × (now (exit .1 .0) ≡ now records) × (now (exit .1 .1 .1 .1 .1 .1 .0) ≡ 1))
   -- a new line that is accepted is `newLine`'s, and kept
-  pub makes : (κs : _) (block : _) (records : _) (numbers : _) (codes : _) (r : ℕ) (exit : _) →
+  pub made : (κs : _) (block : _) (records : _) (numbers : _) (codes : _) (r : ℕ) (exit : _) →
       bagtag-line-new.Post κs (block, (records, (numbers, (codes, tt)))) r exit → r ≡ 0 →
-      let l = newLine (now block) (now numbers) (now codes) in
-      (now (exit .0) ≡ l .block) × (now (exit .1 .0) ≡ rackOf (l .shown .board)) × (l .shown .board .count ≡ length (now numbers))
-      × Lined (l .shown .board)
-  -- and each call on the bytes of a line that is kept is `lineStep` on it, and keeps it, whatever it answers
-  pub steps : (board : Board) → Lined board →
-      (κs : _) (block : _) (records : _) (code place reading : ℕ) (line : _) (r : ℕ) (exit : _) →
-      bagtag-line-event.Post κs (block, (records, (board .count, (code, (place, (reading, (line, tt))))))) r exit →
-      now records ≡ rackOf board →
-      let l = lineStep (now block) board code place reading in
-      (r ≡ numberIn (l .shown .answer)) × (now (exit .0) ≡ l .block) × (now (exit .1 .0) ≡ rackOf (l .shown .board))
-      × (now (exit .1 .1 .1 .1 .1 .1 .0) ≡ digitOf (l .shown .line)) × Lined (l .shown .board)
+      let l = leaves (newLine (now block) (now numbers) (now codes)) in
+      Keeps (now (exit .0)) (now (exit .1 .0)) l × (countOf l ≡ length (now numbers))
+  -- and each call on a line that is kept is `lineStep` on it, and keeps what that leaves, whatever it answers
+  pub stepped : {l : Line} (κs : _) (block : _) (records : _) (code place reading : ℕ) (line : _) (r : ℕ) (exit : _) →
+      Keeps (now block) (now records) l →
+      bagtag-line-event.Post κs (block, (records, (countOf l, (code, (place, (reading, (line, tt))))))) r exit →
+      let o = lineStep (l .block) (l .board) code place reading in
+      (r ≡ numberIn (o .shown .answer)) × (now (exit .1 .1 .1 .1 .1 .1 .0) ≡ digitOf (o .shown .line))
+      × Keeps (now (exit .0)) (now (exit .1 .0)) (leaves o)
+  -- so from `bagtag_line_new` on 3, 13 and 6 never come: the number is by the event's own code, place and reading
+  pub own : {l : Line} (κs : _) (block : _) (records : _) (code place reading : ℕ) (line : _) (r : ℕ) (exit : _) →
+      Keeps (now block) (now records) l →
+      bagtag-line-event.Post κs (block, (records, (countOf l, (code, (place, (reading, (line, tt))))))) r exit →
+      r ≡ (if eqb code 3 && leb (countOf l) place then 14 else ownNumber code reading)

@@ -12,6 +12,8 @@ use lib.ListN.{length, getD, replicate, getD-replicate, List·getD-eq-default}
 use denote.Ref.{now}
 use Rattle.answer.specs.Answer.{answerNumber}
 use Rattle.answer.specs.declared.Answer.{Answer}
+use Rattle.bagtag.proofs.line.bagtag_line_event.Reads as bagtag-line-event
+use Rattle.bagtag.proofs.line.bagtag_line_new.Reads as bagtag-line-new
 use Rattle.bagtag.specs.Line.{NewLine, asked, shortNumber, newLineCall, LineEvent, lineCall}
 use Rattle.bagtag.specs.Line.Laws as calls
 use Rattle.bagtag.specs.Line.Laws.{new-made, new-refused, line-number, line-left}
@@ -29,15 +31,16 @@ use Rattle.rack.specs.Rack.Back.{length-rack, record-rack, own-rack, rack-back,
 use Rattle.rack.specs.Rack.Laws.{room}
 use Rattle.record.specs.Record.{freshTag, tagInRange}
 use Rattle.select.specs.Select.{modeOf}
-use Rattle.promises.specs.Library.{isRecord}
-use Rattle.promises.specs.Library.Line.{recordIn, romIn, twiceIn, zerosOf, newLineNumber, lineNumber, Lined, LibraryLine}
+use Rattle.promises.specs.Library.{digitOf, isRecord}
+use Rattle.promises.specs.Library.Line.{recordIn, romIn, twiceIn, zerosOf, newLineNumber, lineNumber, Lined, Keeps, LibraryLine}
 use Rattle.promises.specs.Library.Proof.{zeros-packed}
 use Rattle.promises.specs.Library.Record.{fits-of, holds-of}
 use Rattle.promises.specs.Ranges.{isRom, isConfiguration, inRange}
 use Rattle.promises.specs.Ranges.Laws.{range-is}
 use Rattle.promises.specs.Sentences.Events.{numberIn, ownNumber, clearTag}
-use Rattle.promises.specs.Sentences.Events.Proof.{numbered}
-use Rattle.promises.specs.Several.{twice, isMany, firstFault, newNumber}
+use Rattle.promises.specs.Sentences.Events.Proof.{numbered, number-accepts}
+use Rattle.promises.specs.Several.{Line, countOf, leaves, twice, isMany, firstFault, newNumber, Reached}
+use Rattle.promises.specs.Several.Proof.{line-demand1}
 use Rattle.promises.specs.Several.Numbers.{twice-is, new-number}
 use Rattle.promises.specs.Words.{if_then_else_}
 
@@ -293,6 +296,56 @@ module _ (board : Board) (lined : Lined board) where
         (dite (ℕ-discrete (answerNumber (left .shown .answer)) 0) (λ zero. rw (eq-eqb _ 0 zero))
         (λ some. rw (ne-eqb _ 0 some, same-board some)))
 
+-- a new line that is accepted is the board's
+makes : (κs : _) (block : _) (records : _) (numbers : _) (codes : _) (r : ℕ) (exit : _) →
+    bagtag-line-new.Post κs (block, (records, (numbers, (codes, tt)))) r exit → r ≡ 0 →
+    let l = newLine (now block) (now numbers) (now codes) in
+    (now (exit .0) ≡ l .block) × (now (exit .1 .0) ≡ rackOf (l .shown .board)) × (l .shown .board .count ≡ length (now numbers))
+    × Lined (l .shown .board) × (answerNumber (l .shown .answer) ≡ 0)
+makes κs block records numbers codes r exit p none =
+    let n = new-number-is (now block) (now records) (now numbers) (now codes) in
+    let room = had-room (now block) (now records) (now numbers) (now codes) (sym n ∙ sym (p .0) ∙ none) in
+    let e = new-made (now block) (now records) (now numbers) (now codes) room in
+    let zero = sym (ap (λ (c : NewLine). c .number) e) ∙ sym (p .0) ∙ none in
+    let fit = p .1 .1 .1 room in (
+      p .1 .0 ∙ ap (λ (c : NewLine). c .block) e,
+      p .1 .1 .0 ∙ ap (λ (c : NewLine). c .records) e ∙ ap rackOf (asked-is (now block) (now records) (now numbers) (now codes) room zero fit),
+      made-count (now block) (now records) (now numbers) (now codes) room zero fit,
+      made-lined (now block) (now records) (now numbers) (now codes) room zero fit,
+      zero,
+    )
+
+new-reached : (block numbers codes : List ℕ) → answerNumber (newLine block numbers codes .shown .answer) ≡ 0 →
+    Reached (leaves (newLine block numbers codes))
+new-reached block numbers codes none = Reached.new block numbers codes (number-accepts none)
+
+-- and a call on a line that is kept is the board's event
+stepped : {l : Line} (κs : _) (block : _) (records : _) (code place reading : ℕ) (line : _) (r : ℕ) (exit : _) → Keeps (now block) (now records) l →
+    bagtag-line-event.Post κs (block, (records, (countOf l, (code, (place, (reading, (line, tt))))))) r exit →
+    let o = lineStep (l .block) (l .board) code place reading in
+    (r ≡ numberIn (o .shown .answer)) × (now (exit .1 .1 .1 .1 .1 .1 .0) ≡ digitOf (o .shown .line))
+    × Keeps (now (exit .0)) (now (exit .1 .0)) (leaves o)
+stepped {l} κs block records code place reading line r exit k p =
+    let board = l .board in
+    let lined = k .lined in
+    let e : lineCall (now block) (now records) (board .count) code place reading ≡ _ =
+    (λ i. lineCall (k .block i) (k .records i) (board .count) code place reading) ∙ call-is board lined (l .block) code place reading in
+    let own = ap (λ (b : List ℕ). isRack b (board .count)) (k .records) ∙ own-rack board (few-lined board lined) (fit-lined board lined) in
+    let back = ap (λ (b : List ℕ). boardIn b (board .count)) (k .records)
+    ∙ rack-back board (few-lined board lined) (fit-lined board lined) (lined .size) (rest-lined board lined) in (
+      p .0 ∙ ap (λ (c : LineEvent). c .number) e,
+      p .1 .1 .1 .0 ∙ ap (λ (c : LineEvent). c .line) e,
+      record {
+        block = p .1 .0 ∙ ap (λ (c : LineEvent). c .block) e;
+        records = p .1 .1 .0 ∙ ap (λ (c : LineEvent). c .records) e;
+        lined = keeps-lined board lined (l .block) code place reading
+            (λ zero. subst (λ (b : List ℕ). AllFit (lineStep b board code place reading .shown .board)) (k .block)
+            (subst (λ (b : Board). AllFit (lineStep (now block) b code place reading .shown .board)) back
+            (p .1 .1 .1 .1 .1 own (ap (λ (c : LineEvent). c .number) e ∙ zero))));
+        reached = line-demand1 .again (k .reached) code place reading;
+      },
+    )
+
 -- ---- all together
 
 pub library-line : LibraryLine
@@ -317,27 +370,11 @@ library-line =
                 let left = line-left (now block) (now records) count code place reading (λ none. some (p .0 ∙ none)) in
                 (p .1 .0 ∙ left .0, p .1 .1 .0 ∙ left .1, p .1 .1 .1 .0 ∙ left .2),
           );
-      makes = λ κs block records numbers codes r exit p none.
-          let n = new-number-is (now block) (now records) (now numbers) (now codes) in
-          let room = had-room (now block) (now records) (now numbers) (now codes) (sym n ∙ sym (p .0) ∙ none) in
-          let e = new-made (now block) (now records) (now numbers) (now codes) room in
-          let zero = sym (ap (λ (c : NewLine). c .number) e) ∙ sym (p .0) ∙ none in
-          let fit = p .1 .1 .1 room in (
-            p .1 .0 ∙ ap (λ (c : NewLine). c .block) e,
-            p .1 .1 .0 ∙ ap (λ (c : NewLine). c .records) e ∙ ap rackOf (asked-is (now block) (now records) (now numbers) (now codes) room zero fit),
-            made-count (now block) (now records) (now numbers) (now codes) room zero fit,
-            made-lined (now block) (now records) (now numbers) (now codes) room zero fit,
-          );
-      steps = λ board lined κs block records code place reading line r exit p is.
-          let e = ap (λ (l : List ℕ). lineCall (now block) l (board .count) code place reading) is ∙ call-is board lined (now block) code place reading in
-          let own = ap (λ (l : List ℕ). isRack l (board .count)) is ∙ own-rack board (few-lined board lined) (fit-lined board lined) in
-          let back = ap (λ (l : List ℕ). boardIn l (board .count)) is ∙ rack-back board (few-lined board lined) (fit-lined board lined) (lined .size) (rest-lined board lined) in (
-            p .0 ∙ ap (λ (c : LineEvent). c .number) e,
-            p .1 .0 ∙ ap (λ (c : LineEvent). c .block) e,
-            p .1 .1 .0 ∙ ap (λ (c : LineEvent). c .records) e,
-            p .1 .1 .1 .0 ∙ ap (λ (c : LineEvent). c .line) e,
-            keeps-lined board lined (now block) code place reading
-                (λ zero. subst (λ (b : Board). AllFit (lineStep (now block) b code place reading .shown .board)) back
-                (p .1 .1 .1 .1 .1 own (ap (λ (c : LineEvent). c .number) e ∙ zero))),
-          );
+      made = λ κs block records numbers codes r exit p none.
+          let m = makes κs block records numbers codes r exit p none in
+          (record { block = m .0; records = m .1; lined = m .3; reached = new-reached (now block) (now numbers) (now codes) (m .4) }, m .2);
+      stepped = stepped;
+      own = λ {l} κs block records code place reading line r exit k p.
+          stepped κs block records code place reading line r exit k p .0
+          ∙ line-demand1 .fit (line-demand1 .reached (k .reached) .0) code place reading;
     }

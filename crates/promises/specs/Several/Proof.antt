@@ -2,11 +2,12 @@
 use mathlib.Core.Path.{_≡_, refl, sym, ap, subst, _∙_}
 use mathlib.Core.Bool.{Bool, true, false, not, _&&_, _||_, false≢true}
 use mathlib.Core.List.{List, [], _∷_, _++_, map, flatMap, append-nil, append-assoc}
-use mathlib.Core.Logic.{_≢_, _⊎_, inl, inr, ⊎-elim}
+use mathlib.Core.Logic.{_≢_, _⊎_, inl, inr, dite, ⊎-elim}
 use Prim.Native.Nat.{ℕ, zero, suc, _*_, _^_, _<_, _≤_}
+use native.Mathlib.Decide.{ℕ-discrete}
 use native.Mathlib.Omega.{arith}
-use borrow.Author.Tests.{eqb-true, leb-true, eq-eqb, ne-eqb, lt-leb, le-ltb}
-use lib.Dec.{eqb, leb}
+use borrow.Author.Tests.{eqb-true, leb-true, ltb-false, eq-eqb, ne-eqb, lt-leb, le-ltb}
+use lib.Dec.{eqb, leb, ltb}
 use lib.ListN.{length, getD, take, drop, replicate, length-drop}
 use lib.Seq.{take-at, length-take-le}
 use denote.Ref.{now}
@@ -35,7 +36,7 @@ use Rattle.promises.specs.Sentences.Events as events
 use Rattle.promises.specs.Sentences.Events.{numberIn, ownNumber, clearTag}
 use Rattle.promises.specs.Sentences.Events.Proof as events-proof
 use Rattle.promises.specs.Sentences.Events.Proof.{number-accepts}
-use Rattle.promises.specs.Several.{Line, countOf, tagAt, Seven, LineEvent, leaves, after, Accepts, run, AllAccepted, hears, heard, OneTag, twice, isMany, lineNumber, firstFault, newNumber, Defined, outcome, noBoard, Reached, FitLine, Valid, LineDemand1, Unselected, LeftAlone, Elsewhere, Resumes, stretches, Each, TouchesNoOther}
+use Rattle.promises.specs.Several.{Line, countOf, tagAt, Seven, LineEvent, happens, leaves, after, Accepts, run, AllAccepted, hears, heard, OneTag, twice, isMany, lineNumber, firstFault, newNumber, Defined, outcome, noBoard, Reached, FitLine, Valid, LineDemand1, Unselected, LeftAlone, Elsewhere, Resumes, stretches, Each, TouchesNoOther}
 use Rattle.promises.specs.Several.Aside.{Opens, Listens, left-aside, reset-listens, stretch-aside, reset-plain}
 use Rattle.promises.specs.Several.Laws.{stateOf, event-remains, event-tag, run-remains, run-tag, run-line}
 use Rattle.promises.specs.Several.Numbers.{line-number, new-number, twice-own, twice-none}
@@ -270,6 +271,41 @@ fit-valid {l} fit (LineEvent.tick place reading) valid =
     number-accepts (fit-number fit 3 place reading ∙ rw (lt-leb (countOf l) place (valid .0), le-ltb 2047 reading (valid .1)) refl)
 fit-valid fit LineEvent.short valid = number-accepts (fit-number fit 4 0 0)
 
+-- the event that a code of 0 to 4 is
+pub event-of : (code place reading : ℕ) → code ≤ 4 →
+    (e : LineEvent) × ((l : Line) → lineStep (l .block) (l .board) code place reading ≡ happens l e)
+event-of zero place reading h = (LineEvent.slot false, λ l. unread (l .block) (l .board) 0 place reading (omega arith))
+event-of (suc zero) place reading h = (LineEvent.slot true, λ l. unread (l .block) (l .board) 1 place reading (omega arith))
+event-of (suc (suc zero)) place reading h = (LineEvent.reset, λ l. unread (l .block) (l .board) 2 place reading (omega arith))
+event-of (suc (suc (suc zero))) place reading h = (LineEvent.tick place reading, λ l. refl)
+event-of (suc (suc (suc (suc zero)))) place reading h = (LineEvent.short, λ l. unread (l .block) (l .board) 4 place reading (omega arith))
+event-of (suc (suc (suc (suc (suc code))))) place reading h = absurd (omega (arith, h))
+
+-- an event that is accepted has such a code
+own-code : (count code place reading : ℕ) → (if eqb code 3 && leb count place then 14 else ownNumber code reading) ≡ 0 → code ≤ 4
+unfolding ownNumber
+own-code count code place reading = by (eqb code 3 && leb count place) (ltb 4 code) refl
+  where
+    by : (none high : Bool) → ltb 4 code ≡ high →
+        _≡_ {A = ℕ} (if none then 14 else if high then 1 else if eqb code 3 && ltb 2047 reading then 2 else 0) 0 → code ≤ 4
+    by none false h e = ltb-false 4 code h
+    by true true h e = absurd (omega (arith, e))
+    by false true h e = absurd (omega (arith, e))
+
+again : {l : Line} → Reached l → (code place reading : ℕ) → Reached (leaves (lineStep (l .block) (l .board) code place reading))
+unfolding after
+again {l} r code place reading =
+    dite (ℕ-discrete (numberIn (lineStep (l .block) (l .board) code place reading .shown .answer)) 0)
+    (λ none.
+    let e = event-of code place reading (own-code (countOf l) code place reading (sym (fit-number (reached-line r .0) code place reading) ∙ none)) in
+    let same = e .1 l in
+    subst (λ (o : Left). Reached (leaves o)) (sym same)
+    (Reached.event (e .0) r (ap (λ (o : Left). o .shown .answer) (sym same) ∙ number-accepts none)))
+    (λ some.
+    let d = line-defined l code place reading in
+    let left = d .refusal (λ zero. some (d .answer ∙ zero)) in
+    subst Reached (λ i. record { block = sym (left .2) i; board = sym (left .1) i }) r)
+
 pub line-demand1 : LineDemand1
 line-demand1 =
     record {
@@ -282,6 +318,7 @@ line-demand1 =
       made = made;
       reached = reached-line;
       stays-fit = fit-after;
+      again = again;
       fit = fit-number;
       valid = fit-valid;
     }
