@@ -1,6 +1,6 @@
 -- Request #106, "Several tags on one line": a line is up to seven tags, each a state of its own, and what holds of one tag holds of each of
--- them. First the words, then four statements: a tag on the line is a tag alone, which carries all others; demand 1 of the line; that a
--- Match touches no other tag; and, in Several/Demand3.antt, demand 3. Assumes nothing.
+-- them. First the words, then the statements: a tag on the line is a tag alone, which carries all others; demand 1 of the line; its bits; that
+-- a Match touches no other tag; and, in Several/Demand3.antt, demand 3. Assumes nothing.
 use mathlib.Core.Bool.{Bool, true, false, not, _&&_, _||_}
 use mathlib.Core.List.{List, [], _∷_, _++_, map, flatMap}
 use mathlib.Core.Path.{_≡_}
@@ -251,7 +251,21 @@ pub record LineDemand1 : Type 2 where
       ≡ (if eqb code 3 && leb (countOf l) place then 14 else ownNumber code reading)
   pub valid : {l : Line} → FitLine l → (e : LineEvent) → Valid (countOf l) e → Accepts l e
 
--- ---- 3. "Match touches no other"
+-- ---- 3. the line's bits
+
+pub record LineBits : Type 0 where
+  -- a slot held low is low; "Code 2 gives 0"; "A tick gives 1"
+  pub low-slot : {l : Line} → FitLine l → lineBit l (LineEvent.slot false) ≡ false
+  pub reset : {l : Line} → FitLine l → lineBit l LineEvent.reset ≡ false
+  pub tick : {l : Line} → FitLine l → (place reading : ℕ) → place < countOf l → reading ≤ 2047 → lineBit l (LineEvent.tick place reading) ≡ true
+  -- "and no other tag gets a second"
+  pub other : {l : Line} → FitLine l → (place reading : ℕ) → place < countOf l → reading ≤ 2047 →
+      (j : ℕ) → j < countOf l → j ≢ place → tagAt (after l (LineEvent.tick place reading)) j ≡ tagAt l j
+  -- "Code 4 gives 0 exactly if a tag is at overdrive; tags at standard speed don't change"
+  pub short : {l : Line} → FitLine l → lineBit l LineEvent.short ≡ not (some (countOf l) (λ i. speedOf (tagAt l i)))
+  pub slow : {l : Line} → FitLine l → (j : ℕ) → j < countOf l → speedOf (tagAt l j) ≡ false → tagAt (after l LineEvent.short) j ≡ tagAt l j
+
+-- ---- 4. "Match touches no other"
 
 -- the tag is not chosen as the event comes
 abbrev pub Unselected : State → Event → Type 0

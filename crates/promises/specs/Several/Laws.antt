@@ -130,7 +130,7 @@ module _ (l : Line) (place reading : ℕ) (ok : Accepts l (LineEvent.tick place 
       (ap stateOf (visit-own (reached-visits 3 reading) place (going l) (here place named) (omega (arith, named, small, seven)))
       ∙ ap (λ (o : Outcome). alone.leaves o) (own-event l (LineEvent.tick place reading) ok place named (Event.tick reading) refl refl))
 
-  tick-other : (other : ℕ) → other < countOf l → other ≢ place → tagAt (after l (LineEvent.tick place reading)) other ≡ tagAt l other
+  pub tick-other : (other : ℕ) → other < countOf l → other ≢ place → tagAt (after l (LineEvent.tick place reading)) other ≡ tagAt l other
   unfolding after board.imageAt board.tagAt modeOf
   tick-other other h apart =
       rw tick-is (ap stateOf (visit-other (reached-visits 3 reading) place other (going l) (here place named) (here other h) apart))
@@ -142,13 +142,15 @@ module _ (l : Line) (place reading : ℕ) (ok : Accepts l (LineEvent.tick place 
       let low = tick-low 3 reading (pass l (LineEvent.tick place reading) ok .low) refl in
       ap (λ (o : Outcome). o .answered .line) (tick-happens (tag-sound l (LineEvent.tick place reading) ok i h) reading low)
 
-  tick-line : lineBit l (LineEvent.tick place reading) ≡ each (countOf l) (λ i. bitOf (tagAt l i) (hears i (LineEvent.tick place reading)))
+  pub tick-gives : lineBit l (LineEvent.tick place reading) ≡ true
   unfolding reached board.imageAt board.tagAt modeOf
-  tick-line =
+  tick-gives =
       ap (λ (o : Left). o .shown .line) tick-is
       ∙ ap (λ (o : Outcome). o .answered .line) (own-event l (LineEvent.tick place reading) ok place named (Event.tick reading) refl refl)
       ∙ tick-high place named
-      ∙ sym (each-true (countOf l) _ (λ i h. by i h (eqb place i)))
+
+  tick-line : lineBit l (LineEvent.tick place reading) ≡ each (countOf l) (λ i. bitOf (tagAt l i) (hears i (LineEvent.tick place reading)))
+  tick-line = tick-gives ∙ sym (each-true (countOf l) _ (λ i h. by i h (eqb place i)))
     where
       by : (i : ℕ) → i < countOf l → (b : Bool) → bitOf (tagAt l i) (if b then Event.tick reading ∷ [] else []) ≡ true
       by i h true = tick-high i h

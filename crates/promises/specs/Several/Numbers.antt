@@ -28,7 +28,7 @@ use Rattle.promises.specs.Words.{if_then_else_, numberOf}
 
 -- ---- two of the same
 
-some-is : (n : ℕ) (f : ℕ → Bool) → some n f ≡ not (each n (λ i. not (f i)))
+pub some-is : (n : ℕ) (f : ℕ → Bool) → some n f ≡ not (each n (λ i. not (f i)))
 unfolding some
 some-is zero f = refl
 some-is (suc n) f = by (f n) (some-is n f)

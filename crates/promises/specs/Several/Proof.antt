@@ -14,7 +14,7 @@ use denote.Ref.{now}
 use Rattle.answer.specs.Answer.{answerNumber}
 use Rattle.bits.specs.Bits.{shiftAll}
 use Rattle.bits.specs.Bits.Laws.{heard-whole, length-bits}
-use Rattle.bits.specs.Each.{each, each-true}
+use Rattle.bits.specs.Each.{each, each-true, each-false, each-same}
 use Rattle.board.specs.Board as board
 use Rattle.board.specs.Board.{Left, lineStep, newLine, begun, emptyBoard}
 use Rattle.board.specs.Board.Laws as board-laws
@@ -36,11 +36,11 @@ use Rattle.promises.specs.Sentences.Events as events
 use Rattle.promises.specs.Sentences.Events.{numberIn, ownNumber, clearTag}
 use Rattle.promises.specs.Sentences.Events.Proof as events-proof
 use Rattle.promises.specs.Sentences.Events.Proof.{number-accepts}
-use Rattle.promises.specs.Several.{Line, countOf, tagAt, Seven, LineEvent, happens, leaves, after, Accepts, run, AllAccepted, hears, heard, OneTag, twice, isMany, lineNumber, firstFault, newNumber, Defined, outcome, noBoard, Reached, FitLine, Valid, LineDemand1, Unselected, LeftAlone, Elsewhere, Resumes, stretches, Each, TouchesNoOther}
+use Rattle.promises.specs.Several.{Line, countOf, tagAt, Seven, LineEvent, happens, leaves, after, lineBit, Accepts, run, AllAccepted, hears, heard, bitOf, OneTag, twice, isMany, lineNumber, firstFault, newNumber, Defined, outcome, noBoard, Reached, FitLine, Valid, LineDemand1, LineBits, Unselected, LeftAlone, Elsewhere, Resumes, stretches, Each, TouchesNoOther}
 use Rattle.promises.specs.Several.Aside.{Opens, Listens, left-aside, reset-listens, stretch-aside, reset-plain}
-use Rattle.promises.specs.Several.Laws.{stateOf, event-remains, event-tag, run-remains, run-tag, run-line}
-use Rattle.promises.specs.Several.Numbers.{line-number, new-number, twice-own, twice-none}
-use Rattle.promises.specs.Words.{if_then_else_, among, low, numberOf, Chosen}
+use Rattle.promises.specs.Several.Laws.{stateOf, tick-gives, tick-other, event-remains, event-tag, event-line, run-remains, run-tag, run-line}
+use Rattle.promises.specs.Several.Numbers.{some-is, twice-own, twice-none, line-number, new-number}
+use Rattle.promises.specs.Words.{if_then_else_, among, low, numberOf, speedOf, Chosen}
 use Rattle.promises.specs.Words.Laws.{low-is}
 
 -- ---- a tag on the line is a tag
@@ -133,6 +133,13 @@ many-some count e = by (leb 1 count) (leb count 7) refl e
     by true true p e = leb-true count 7 p
     by true false p e = absurd (false≢true e)
     by false b p e = absurd (false≢true e)
+
+many-any : (count : ℕ) → isMany count ≡ true → 0 < count
+many-any count e = by (leb 1 count) refl e
+  where
+    by : (a : Bool) → leb 1 count ≡ a → (a && leb count 7) ≡ true → 0 < count
+    by true p e = leb-true 1 count p
+    by false p e = absurd (false≢true e)
 
 -- each number and each code is good
 faultless-at : (numbers codes : List ℕ) → firstFault numbers codes ≡ 0 → length codes ≡ length numbers → (i : ℕ) → i < length numbers →
@@ -321,6 +328,44 @@ line-demand1 =
       again = again;
       fit = fit-number;
       valid = fit-valid;
+    }
+
+-- ---- the line's bits
+
+not-not : (b : Bool) → b ≡ not (not b)
+not-not true = refl
+not-not false = refl
+
+-- the first tag gives 0, and so does the line
+low-line : {l : Line} → FitLine l → (e : LineEvent) → Accepts l e → bitOf (tagAt l 0) (hears 0 e) ≡ false → lineBit l e ≡ false
+low-line {l} fit e ok low =
+    event-line l e ok ∙ each-false (countOf l) (λ place. bitOf (tagAt l place) (hears place e)) 0 (many-any (countOf l) (fit .many)) low
+
+short-bit : {s : State} → Fit s → alone.lineBit s Event.short ≡ not (speedOf s)
+short-bit {s} fit = by (speedOf s) refl
+  where
+    by : (fast : Bool) → speedOf s ≡ fast → alone.lineBit s Event.short ≡ not fast
+    by true e = overdrive .fast fit e .0
+    by false e = overdrive .slow fit e .0
+
+pub line-bits : LineBits
+unfolding alone.run
+line-bits =
+    record {
+      low-slot = λ {l} fit.
+          low-line fit (LineEvent.slot false) (fit-valid fit (LineEvent.slot false) tt) (events-proof.events .low-slot (fit .tags 0 (many-any (countOf l) (fit .many))));
+      reset = λ {l} fit.
+          low-line fit LineEvent.reset (fit-valid fit LineEvent.reset tt) (events-proof.events .reset (fit .tags 0 (many-any (countOf l) (fit .many))));
+      tick = λ {l} fit place reading there small. tick-gives l place reading (fit-valid fit (LineEvent.tick place reading) (there, small));
+      other = λ {l} fit place reading there small.
+          tick-other l place reading (fit-valid fit (LineEvent.tick place reading) (there, small));
+      short = λ {l} fit.
+          event-line l LineEvent.short (fit-valid fit LineEvent.short tt)
+          ∙ each-same (countOf l) _ (λ i. not (speedOf (tagAt l i))) (λ i h. short-bit (fit .tags i h))
+          ∙ not-not (each (countOf l) (λ i. not (speedOf (tagAt l i))))
+          ∙ ap not (sym (some-is (countOf l) (λ i. speedOf (tagAt l i))));
+      slow = λ {l} fit j h standard.
+          event-tag l (fit .seven) LineEvent.short (fit-valid fit LineEvent.short tt) j h ∙ overdrive .slow (fit .tags j h) standard .1;
     }
 
 -- ---- events that are accepted
