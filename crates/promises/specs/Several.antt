@@ -22,13 +22,15 @@ use Rattle.promises.specs.Overdrive.{NoLong, slotsIn, Starts}
 use Rattle.promises.specs.Ranges.{isRom, isConfiguration, inRange, Fit}
 use Rattle.promises.specs.Runs as alone
 use Rattle.promises.specs.Runs.{State, Event, Kept, ticksOf}
-use Rattle.promises.specs.Sentences.Events.{numberIn, ownNumber, clearTag}
+use Rattle.promises.specs.Sentences.Events.{numberIn, ownNumber, clearTag, sendsNow}
 use Rattle.promises.specs.Words.{if_then_else_, among, low, numberOf, speedOf, Chosen}
 pub mod Laws
 pub mod Away
+pub mod InStep
 pub mod Aside
 pub mod Numbers
 pub mod Proof
+pub mod Bits
 pub mod Demand3
 pub mod Met
 
@@ -264,6 +266,12 @@ pub record LineBits : Type 0 where
   -- "Code 4 gives 0 exactly if a tag is at overdrive; tags at standard speed don't change"
   pub short : {l : Line} → FitLine l → lineBit l LineEvent.short ≡ not (some (countOf l) (λ i. speedOf (tagAt l i)))
   pub slow : {l : Line} → FitLine l → (j : ℕ) → j < countOf l → speedOf (tagAt l j) ≡ false → tagAt (after l LineEvent.short) j ≡ tagAt l j
+  -- "From a new line on no tag listens while another sends": while one sends, the master's bit makes no difference to any
+  pub deaf : {l : Line} → Reached l → (i j : ℕ) → i < countOf l → j < countOf l → sendsNow (tagAt l i) ≡ true →
+      alone.after (tagAt l j) (Event.slot false) ≡ alone.after (tagAt l j) (Event.slot true)
+  -- "so hearing the line's bit would be the same"
+  pub hearing : {l : Line} → Reached l → (bit : Bool) (j : ℕ) → j < countOf l →
+      tagAt (after l (LineEvent.slot bit)) j ≡ alone.after (tagAt l j) (Event.slot (lineBit l (LineEvent.slot bit)))
 
 -- ---- 4. "Match touches no other"
 

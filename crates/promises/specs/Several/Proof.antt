@@ -14,7 +14,7 @@ use denote.Ref.{now}
 use Rattle.answer.specs.Answer.{answerNumber}
 use Rattle.bits.specs.Bits.{shiftAll}
 use Rattle.bits.specs.Bits.Laws.{heard-whole, length-bits}
-use Rattle.bits.specs.Each.{each, each-true, each-false, each-same}
+use Rattle.bits.specs.Each.{each, each-true}
 use Rattle.board.specs.Board as board
 use Rattle.board.specs.Board.{Left, lineStep, newLine, begun, emptyBoard}
 use Rattle.board.specs.Board.Laws as board-laws
@@ -22,6 +22,8 @@ use Rattle.board.specs.Board.Visits.{across-own, new-visits, new-stays}
 use Rattle.board.specs.declared.Board.{Board}
 use Rattle.board.specs.declared.Shown.{Shown}
 use Rattle.record.specs.declared.Tag.{Tag}
+use Rattle.select.specs.declared.Choosing.{Choosing}
+use Rattle.select.specs.declared.Mode.{Mode}
 use Rattle.select.specs.Select.{modeOf}
 use Rattle.tag.specs.Tag.{newTag}
 use Rattle.promises.specs.Overdrive.{NoLong, NoShort, slotsIn, Starts, ButSpeed}
@@ -36,11 +38,11 @@ use Rattle.promises.specs.Sentences.Events as events
 use Rattle.promises.specs.Sentences.Events.{numberIn, ownNumber, clearTag}
 use Rattle.promises.specs.Sentences.Events.Proof as events-proof
 use Rattle.promises.specs.Sentences.Events.Proof.{number-accepts}
-use Rattle.promises.specs.Several.{Line, countOf, tagAt, Seven, LineEvent, happens, leaves, after, lineBit, Accepts, run, AllAccepted, hears, heard, bitOf, OneTag, twice, isMany, lineNumber, firstFault, newNumber, Defined, outcome, noBoard, Reached, FitLine, Valid, LineDemand1, LineBits, Unselected, LeftAlone, Elsewhere, Resumes, stretches, Each, TouchesNoOther}
+use Rattle.promises.specs.Several.{Line, countOf, tagAt, Seven, LineEvent, happens, leaves, after, Accepts, run, AllAccepted, hears, heard, OneTag, twice, isMany, lineNumber, firstFault, newNumber, Defined, outcome, noBoard, Reached, FitLine, Valid, LineDemand1, Unselected, LeftAlone, Elsewhere, Resumes, stretches, Each, TouchesNoOther}
 use Rattle.promises.specs.Several.Aside.{Opens, Listens, left-aside, reset-listens, stretch-aside, reset-plain}
-use Rattle.promises.specs.Several.Laws.{stateOf, tick-gives, tick-other, event-remains, event-tag, event-line, run-remains, run-tag, run-line}
-use Rattle.promises.specs.Several.Numbers.{some-is, twice-own, twice-none, line-number, new-number}
-use Rattle.promises.specs.Words.{if_then_else_, among, low, numberOf, speedOf, Chosen}
+use Rattle.promises.specs.Several.Laws.{stateOf, event-remains, event-tag, run-remains, run-tag, run-line}
+use Rattle.promises.specs.Several.Numbers.{twice-own, twice-none, line-number, new-number}
+use Rattle.promises.specs.Words.{if_then_else_, among, low, numberOf, Chosen}
 use Rattle.promises.specs.Words.Laws.{low-is}
 
 -- ---- a tag on the line is a tag
@@ -134,7 +136,7 @@ many-some count e = by (leb 1 count) (leb count 7) refl e
     by true false p e = absurd (false≢true e)
     by false b p e = absurd (false≢true e)
 
-many-any : (count : ℕ) → isMany count ≡ true → 0 < count
+pub many-any : (count : ℕ) → isMany count ≡ true → 0 < count
 many-any count e = by (leb 1 count) refl e
   where
     by : (a : Bool) → leb 1 count ≡ a → (a && leb count 7) ≡ true → 0 < count
@@ -159,7 +161,7 @@ faultless-at (n ∷ ns) (c ∷ cs) e same i h =
     by true false p q e rest i h = absurd (omega (arith, e))
 
 module _ (block numbers codes : List ℕ) (zero-is : newNumber block numbers codes ≡ 0) where
-  abbrev new : Line
+  abbrev pub new : Line
   new = leaves (newLine block numbers codes)
 
   fine : Good block numbers codes
@@ -174,10 +176,10 @@ module _ (block numbers codes : List ℕ) (zero-is : newNumber block numbers cod
   room : length numbers * 8832 ≤ length block
   room = omega (arith, fine .size)
 
-  abbrev part : ℕ → List ℕ
+  abbrev pub part : ℕ → List ℕ
   part place = take 8832 (drop (place * 8832) block)
 
-  made : Seven new × (countOf new ≡ length numbers) × (length (new .block) ≡ length block)
+  pub made : Seven new × (countOf new ≡ length numbers) × (length (new .block) ≡ length block)
       × ((place : ℕ) → place < length numbers → tagAt new place ≡ alone.leaves (newTag (part place) (getD numbers place 0) (getD codes place 0)))
       × ((place : ℕ) → length numbers ≤ place → tagAt new place .tag ≡ clearTag 0 0)
   unfolding emptyBoard board.imageAt board.tagAt modeOf
@@ -213,6 +215,14 @@ module _ (block numbers codes : List ℕ) (zero-is : newNumber block numbers cod
       (ap (λ (t : Tag). t .exchange .number)
       (events-proof.events .made (part place) (getD numbers place 0) (getD codes place 0) (tag-accepted place h) .1))
 
+  -- and waits for a reset
+  pub tag-silent : (place : ℕ) → place < length numbers →
+      (tagAt new place .tag .exchange .select .choosing ≡ Choosing.Silent) × (tagAt new place .tag .exchange .select .mode ≡ Mode.Plain)
+  tag-silent place h =
+      let made-tag = ap (λ (s : State). s .tag) (made .3 place h)
+      ∙ events-proof.events .made (part place) (getD numbers place 0) (getD codes place 0) (tag-accepted place h) .1 in
+      (ap (λ (t : Tag). t .exchange .select .choosing) made-tag, ap (λ (t : Tag). t .exchange .select .mode) made-tag)
+
   new-fit : FitLine new
   new-fit =
       record {
@@ -242,7 +252,7 @@ fit-after {l} e fit ok =
       tags = λ place h. subst Fit (sym (tag place (below place h))) (fit-run (fit .tags place (below place h)) (hears place e));
     }
 
-reached-line : {l : Line} → Reached l → FitLine l × ((place : ℕ) → place < countOf l → alone.Reached (tagAt l place))
+pub reached-line : {l : Line} → Reached l → FitLine l × ((place : ℕ) → place < countOf l → alone.Reached (tagAt l place))
 reached-line (Reached.new block numbers codes e) =
     let zero-is = sym (new-number block numbers codes) ∙ ap numberIn e in (
       new-fit block numbers codes zero-is,
@@ -328,44 +338,6 @@ line-demand1 =
       again = again;
       fit = fit-number;
       valid = fit-valid;
-    }
-
--- ---- the line's bits
-
-not-not : (b : Bool) → b ≡ not (not b)
-not-not true = refl
-not-not false = refl
-
--- the first tag gives 0, and so does the line
-low-line : {l : Line} → FitLine l → (e : LineEvent) → Accepts l e → bitOf (tagAt l 0) (hears 0 e) ≡ false → lineBit l e ≡ false
-low-line {l} fit e ok low =
-    event-line l e ok ∙ each-false (countOf l) (λ place. bitOf (tagAt l place) (hears place e)) 0 (many-any (countOf l) (fit .many)) low
-
-short-bit : {s : State} → Fit s → alone.lineBit s Event.short ≡ not (speedOf s)
-short-bit {s} fit = by (speedOf s) refl
-  where
-    by : (fast : Bool) → speedOf s ≡ fast → alone.lineBit s Event.short ≡ not fast
-    by true e = overdrive .fast fit e .0
-    by false e = overdrive .slow fit e .0
-
-pub line-bits : LineBits
-unfolding alone.run
-line-bits =
-    record {
-      low-slot = λ {l} fit.
-          low-line fit (LineEvent.slot false) (fit-valid fit (LineEvent.slot false) tt) (events-proof.events .low-slot (fit .tags 0 (many-any (countOf l) (fit .many))));
-      reset = λ {l} fit.
-          low-line fit LineEvent.reset (fit-valid fit LineEvent.reset tt) (events-proof.events .reset (fit .tags 0 (many-any (countOf l) (fit .many))));
-      tick = λ {l} fit place reading there small. tick-gives l place reading (fit-valid fit (LineEvent.tick place reading) (there, small));
-      other = λ {l} fit place reading there small.
-          tick-other l place reading (fit-valid fit (LineEvent.tick place reading) (there, small));
-      short = λ {l} fit.
-          event-line l LineEvent.short (fit-valid fit LineEvent.short tt)
-          ∙ each-same (countOf l) _ (λ i. not (speedOf (tagAt l i))) (λ i h. short-bit (fit .tags i h))
-          ∙ not-not (each (countOf l) (λ i. not (speedOf (tagAt l i))))
-          ∙ ap not (sym (some-is (countOf l) (λ i. speedOf (tagAt l i))));
-      slow = λ {l} fit j h standard.
-          event-tag l (fit .seven) LineEvent.short (fit-valid fit LineEvent.short tt) j h ∙ overdrive .slow (fit .tags j h) standard .1;
     }
 
 -- ---- events that are accepted
