@@ -57,7 +57,7 @@ unfoldable pub sameNumber : ℕ → (ℕ → ℕ) → Bool
 sameNumber count number = not (eachPair count (λ i j. eqb i j || not (eqb (number i) (number j))))
 
 -- "The order is 14, 3, 13, all before any other check of a tag"; "then 6 over all the count's records, then 1, 2"; "Place and reading count
--- with code 3 alone"
+-- with code 3 alone". `same` and `good` are whether two numbers are the same and all records keep to their ranges
 unfoldable pub judgedBy : ℕ → ℕ → Bool → Bool → ℕ → ℕ → ℕ → Answer
 judgedBy count size same good code place reading =
     if not (isCount count) || namesNone count code place then Answer.TagPlace
@@ -95,7 +95,7 @@ pub record Going : Type 0 where
 abbrev pub begun : List ℕ → Board → Going
 begun block board = record { block = block; board = board; line = true }
 
--- the tag at a place has the event, as it has it alone; "the line bit is the AND of all"
+-- once all is judged, the tag at a place has the event as it has it alone; "the line bit is the AND of all"
 unfoldable pub reached : ℕ → ℕ → ℕ → Going → Going
 reached code reading place l =
     let o : Outcome = eventOf (imageAt (l .block) place) (tagAt (l .board) place) code reading in

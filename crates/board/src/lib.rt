@@ -94,6 +94,7 @@ pub fn event(block: &mut [u8], board: Board, code: u8, place: u8, reading: u16) 
             let answered = event::tick(&mut block[from..from + IMAGE], tags[at], reading);
             let tag = answered.tag;
             tags[at] = tag;
+            line = answered.line;
         } else {
             let mut at = 0;
             while at < count as usize {
@@ -106,9 +107,8 @@ pub fn event(block: &mut [u8], board: Board, code: u8, place: u8, reading: u16) 
             }
         }
     }
-    let board = Board { tags, count };
     Shown {
-        board,
+        board: Board { tags, count },
         answer,
         line,
     }

@@ -11,8 +11,8 @@ pub mod Calls
 pub mod Batches
 pub mod Library
 pub mod Line
-pub mod Several
 pub mod Overdrive
 pub mod Clock
+pub mod Several
 pub mod Determinacy
 pub mod Points

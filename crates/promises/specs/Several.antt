@@ -1,6 +1,7 @@
 -- Request #106, "Several tags on one line": a line is up to seven tags, each a state of its own, and what holds of one tag holds of each of
 -- them. First the words, then the statements: a tag on the line is a tag alone, which carries all others; demand 1 of the line; its bits; that
--- a Match touches no other tag; and, in Several/Demand3.antt, demand 3. Assumes nothing.
+-- a Match touches no other tag; and, in Several/Demand3.antt, demand 3, whose premises Several/Met.antt meets. `one-tag` and `line-demand1` in
+-- Several/Proof.antt, `line-bits` in Several/Bits.antt and `touches-no-other` in Several/Others.antt prove them. Assumes nothing.
 use mathlib.Core.Bool.{Bool, true, false, not, _&&_, _||_}
 use mathlib.Core.List.{List, [], _∷_, _++_, map, flatMap}
 use mathlib.Core.Path.{_≡_}
@@ -18,12 +19,15 @@ use Rattle.board.proofs.event.Reads as event-call
 use Rattle.board.proofs.new.Reads as new-call
 use Rattle.select.specs.declared.Choosing.{Choosing}
 use Rattle.tag.specs.Tag.{newTag}
-use Rattle.promises.specs.Overdrive.{NoLong, slotsIn, Starts}
+use Rattle.promises.specs.Demand3.{JustReset}
+use Rattle.promises.specs.Overdrive.{NoLong, NoShort, slotsIn, Starts}
 use Rattle.promises.specs.Ranges.{isRom, isConfiguration, inRange, Fit}
 use Rattle.promises.specs.Runs as alone
 use Rattle.promises.specs.Runs.{State, Event, Kept, ticksOf}
+use Rattle.promises.specs.Sentences.Commands.{PassesFull}
 use Rattle.promises.specs.Sentences.Events.{numberIn, ownNumber, clearTag, sendsNow}
-use Rattle.promises.specs.Words.{if_then_else_, among, low, numberOf, speedOf, Chosen}
+use Rattle.promises.specs.Sentences.Mission.{Cleared}
+use Rattle.promises.specs.Words.{if_then_else_, among, low, bitAt, numberOf, speedOf, Silent, Chosen}
 pub mod Laws
 pub mod Away
 pub mod InStep
@@ -31,6 +35,7 @@ pub mod Aside
 pub mod Numbers
 pub mod Proof
 pub mod Bits
+pub mod Others
 pub mod Demand3
 pub mod Met
 
@@ -49,7 +54,7 @@ abbrev pub tagAt : Line → ℕ → State
 tagAt l place =
     record { image = take 8832 (drop (place * 8832) (l .block)); tag = getD (l .board .tags) place (clearTag 0 0) }
 
--- there are seven records, as their type says; "Records from the count on .. are not looked at"
+-- there are seven records, as their type says
 abbrev pub Seven : Line → Type 0
 Seven l = length (l .board .tags) ≡ 7
 
@@ -141,8 +146,9 @@ pub record OneTag : Type 0 where
       tagAt (run l es .end) place ≡ alone.run (tagAt l place) (heard place es) .state
   -- and the line's bits are the AND of the tags' bits, each as alone
   pub line : (l : Line) → Seven l → (es : List LineEvent) → AllAccepted l es → run l es .line ≡ lineOf (countOf l) (tagAt l) es
-  -- the count stays, and records from the count on "come back as given"
+  -- the count and the block's length stay, and records from the count on "come back as given"
   pub count : (l : Line) (es : List LineEvent) → countOf (run l es .end) ≡ countOf l
+  pub size : (l : Line) (es : List LineEvent) → length (run l es .end .block) ≡ length (l .block)
   pub past : (l : Line) (es : List LineEvent) (place : ℕ) → countOf l ≤ place → tagAt (run l es .end) place .tag ≡ tagAt l place .tag
 
 -- ---- 2. demand 1
@@ -155,21 +161,21 @@ some (suc n) test = test n || some n test
 abbrev pub twice : ℕ → (ℕ → ℕ) → Bool
 twice n number = some n (λ i. some i (λ j. eqb (number i) (number j)))
 
--- "a count of 0 or above 7"
-abbrev pub isMany : ℕ → Bool
-isMany count = leb 1 count && leb count 7
+-- so many tags make a line: no "count of 0 or above 7"
+abbrev pub isLine : ℕ → Bool
+isLine count = leb 1 count && leb count 7
 
 -- "The order is 14, 3, 13, all before any other check of a tag"; "then 6 over all the count's records, then 1, 2". 14 too for "a tick for a tag
 -- place that isn't there"; 3: "A block whose length isn't 8,832 times the count"; 13: "two tags with the same number"
 unfoldable pub lineNumber : Line → ℕ → ℕ → ℕ → ℕ
 lineNumber l code place reading =
-    if not (isMany (countOf l)) || (eqb code 3 && leb (countOf l) place) then 14
+    if not (isLine (countOf l)) || (eqb code 3 && leb (countOf l) place) then 14
     else if not (eqb (length (l .block)) (countOf l * 8832)) then 3
     else if twice (countOf l) (λ i. numberOf (tagAt l i)) then 13
     else if not (each (countOf l) (λ i. inRange (tagAt l i .tag))) then 6
     else ownNumber code reading
 
--- a new line: "14, 3, 13, then place by place 4, 5"; as many codes as numbers, else 14
+-- "place by place 4, 5"
 unfoldable pub firstFault : List ℕ → List ℕ → ℕ
 firstFault [] codes = 0
 firstFault (number ∷ numbers) [] = 0
@@ -178,14 +184,15 @@ firstFault (number ∷ numbers) (code ∷ codes) =
     else if not (isConfiguration code) then 5
     else firstFault numbers codes
 
+-- a new line: "14, 3, 13, then place by place 4, 5"; as many codes as numbers, else 14
 unfoldable pub newNumber : List ℕ → List ℕ → List ℕ → ℕ
 newNumber block numbers codes =
-    if not (isMany (length numbers)) || not (eqb (length codes) (length numbers)) then 14
+    if not (isLine (length numbers)) || not (eqb (length codes) (length numbers)) then 14
     else if not (eqb (length block) (length numbers * 8832)) then 3
     else if twice (length numbers) (λ i. getD numbers i 0) then 13
     else firstFault numbers codes
 
--- what a call returned, and left in the block: the number is this one, and "a refusal changes no tag", with these records and this block
+-- of what a call returned, and left in the block: this number; and a refusal gives bit 1, these records and this block
 pub record Defined (number : ℕ) (block : List ℕ) (board : Board) (out : Left) : Type 0 where
   pub answer : numberIn (out .shown .answer) ≡ number
   pub refusal : number ≢ 0 → (out .shown .line ≡ true) × (out .shown .board ≡ board) × (out .block ≡ block)
@@ -206,7 +213,7 @@ pub data Reached : Line → Type 0 where
 -- a line that no event refuses by 3, 13 or 6, nor for its count: up to seven tags that are fit, each with a number of its own
 pub record FitLine (l : Line) : Type 0 where
   pub seven : Seven l
-  pub many : isMany (countOf l) ≡ true
+  pub many : isLine (countOf l) ≡ true
   pub size : length (l .block) ≡ countOf l * 8832
   pub apart : (i j : ℕ) → i < countOf l → j < countOf l → numberOf (tagAt l i) ≡ numberOf (tagAt l j) → i ≡ j
   pub tags : (place : ℕ) → place < countOf l → Fit (tagAt l place)
@@ -220,6 +227,7 @@ Valid count LineEvent.short = Unit {0}
 
 -- `event-call.Post` and `new-call.Post` are the contracts as the source states them
 pub record LineDemand1 : Type 2 where
+  -- nobody needs to check first: of no arguments is there anything to show
   pub any-event : (κs : _) (block : _) (board : Board) (code place reading : ℕ) → event-call.Asked κs (block, (board, (code, (place, (reading, tt)))))
   pub any-new : (κs : _) (block : _) (numbers : _) (codes : _) → new-call.Asked κs (block, (numbers, (codes, tt)))
   -- an event: "the numbers and their order, for every block, line and event; a refusal changes no tag and no byte"
@@ -235,6 +243,11 @@ pub record LineDemand1 : Type 2 where
       new-call.Post κs (block, (numbers, (codes, tt))) r exit →
       (outcome r (now (exit .0)) ≡ newLine (now block) (now numbers) (now codes))
       × Defined (newNumber (now block) (now numbers) (now codes)) (now block) noBoard (outcome r (now (exit .0)))
+  pub new-bit : (block numbers codes : List ℕ) → newLine block numbers codes .shown .line ≡ true
+  -- "count 0, whose events answer 14"; "One broken record refuses every event, a tick for another tag too"
+  pub none : (block : List ℕ) (code place reading : ℕ) → lineNumber (record { block = block; board = noBoard }) code place reading ≡ 14
+  pub broken : (l : Line) (i : ℕ) → i < countOf l → inRange (tagAt l i .tag) ≡ false → (code place reading : ℕ) →
+      lineNumber l code place reading ≢ 0
   -- "Tags made one by one on their parts are the same line"
   pub made : (block numbers codes : List ℕ) → newNumber block numbers codes ≡ 0 →
       let l = leaves (newLine block numbers codes) in
@@ -247,6 +260,8 @@ pub record LineDemand1 : Type 2 where
   pub stays-fit : {l : Line} (e : LineEvent) → FitLine l → Accepts l e → FitLine (after l e)
   -- whatever code, place and reading come, refused ones too, a reached line is one again
   pub again : {l : Line} → Reached l → (code place reading : ℕ) → Reached (leaves (lineStep (l .block) (l .board) code place reading))
+  -- each of its tags is then where demand 3 begins, after a code 2
+  pub begins : {l : Line} → Reached l → (place : ℕ) → place < countOf l → JustReset (tagAt (after l LineEvent.reset) place)
   -- to a fit line the number is given by the event alone
   pub fit : {l : Line} → FitLine l → (code place reading : ℕ) →
       numberIn (lineStep (l .block) (l .board) code place reading .shown .answer)
@@ -303,27 +318,54 @@ unfoldable pub stretches : List LineEvent → List (List LineEvent) → List Lin
 stretches first [] = first
 stretches first (next ∷ rest) = first ++ (LineEvent.reset ∷ stretches next rest)
 
-unfoldable pub Each : (List LineEvent → Type 0) → List (List LineEvent) → Type 0
-Each P [] = Unit {0}
-Each P (es ∷ rest) = P es × Each P rest
+unfoldable pub AllOf : (List LineEvent → Type 0) → List (List LineEvent) → Type 0
+AllOf P [] = Unit {0}
+AllOf P (es ∷ rest) = P es × AllOf P rest
 
 pub record TouchesNoOther : Type 0 where
   -- "any run from a long reset in which j is never selected", or from any other place of a run
   pub unselected : {l : Line} → FitLine l → (es : List LineEvent) → AllAccepted l es → (j : ℕ) → j < countOf l →
       alone.Always Unselected (tagAt l j) (heard j es) → LeftAlone (tagAt l j) (heard j es) (tagAt (run l es .end) j)
-  -- after a long reset: a Match with another number, and then stretches begun by such a Match or by Resume
+  -- after a long reset: "55h or 69h with another number, whole or broken off, never selects it, nor does Resume after it", over any number of
+  -- stretches that each begin with a long reset
+  pub never : {l : Line} → FitLine l → (j : ℕ) → j < countOf l → let s = after l LineEvent.reset in
+      (first : List LineEvent) (rest : List (List LineEvent)) → Elsewhere (numberOf (tagAt l j)) (heard j first) →
+      AllOf (λ es. Elsewhere (numberOf (tagAt l j)) (heard j es) ⊎ Resumes (heard j es)) rest →
+      alone.Always Unselected (tagAt s j) (heard j (stretches first rest))
   pub match : {l : Line} → FitLine l → (j : ℕ) → j < countOf l → let s = after l LineEvent.reset in
       (first : List LineEvent) (rest : List (List LineEvent)) → AllAccepted s (stretches first rest) →
       Elsewhere (numberOf (tagAt l j)) (heard j first) →
-      Each (λ es. Elsewhere (numberOf (tagAt l j)) (heard j es) ⊎ Resumes (heard j es)) rest →
+      AllOf (λ es. Elsewhere (numberOf (tagAt l j)) (heard j es) ⊎ Resumes (heard j es)) rest →
       LeftAlone (tagAt s j) (heard j (stretches first rest)) (tagAt (run s (stretches first rest) .end) j)
-  -- "A grower who .. selects his tag by Match": his number is another one to every other tag. Numbers have 64 bits, as their type says
-  pub grower : {l : Line} → FitLine l → ((place : ℕ) → place < countOf l → numberOf (tagAt l place) < 2 ^ 64) →
-      (i j : ℕ) → i < countOf l → j < countOf l → i ≢ j → (byte : ℕ) → among (0x55 ∷ 0x69 ∷ []) byte ≡ true →
-      (es : List LineEvent) → NoLong (heard j es) → Starts (low 8 byte ++ low 64 (numberOf (tagAt l i))) (slotsIn (heard j es)) →
-      Elsewhere (numberOf (tagAt l j)) (heard j es)
+  -- "A grower who, from a long reset on, selects his tag by Match .. must not touch another grower's image". Numbers have 64 bits, as their
+  -- type says
+  pub grower : {l : Line} → FitLine l → (i j : ℕ) → i < countOf l → j < countOf l → i ≢ j →
+      numberOf (tagAt l i) < 2 ^ 64 → numberOf (tagAt l j) < 2 ^ 64 → (byte : ℕ) → among (0x55 ∷ 0x69 ∷ []) byte ≡ true →
+      let s = after l LineEvent.reset in
+      (es : List LineEvent) → AllAccepted s es → NoLong (heard j es) →
+      Starts (low 8 byte ++ low 64 (numberOf (tagAt l i))) (slotsIn (heard j es)) →
+      LeftAlone (tagAt s j) (heard j es) (tagAt (run s es .end) j)
+  -- "After a whole 69h the other tags at standard speed are silent until a long reset", and after a 55h
+  pub silenced : {l : Line} → FitLine l → (byte : ℕ) → among (0x55 ∷ 0x69 ∷ []) byte ≡ true → (j : ℕ) → j < countOf l →
+      (bits : List Bool) → length bits ≡ 64 → bits ≢ low 64 (numberOf (tagAt l j)) →
+      let s = run l (LineEvent.reset ∷ map LineEvent.slot (low 8 byte ++ bits)) .end in
+      (es : List LineEvent) → AllAccepted s es → NoLong (heard j es) → Silent (tagAt (run s es .end) j)
+  -- "those at overdrive until any reset": silent until then, and awake after a short one
+  pub fast-silenced : {l : Line} → FitLine l → (byte : ℕ) → among (0x55 ∷ 0x69 ∷ []) byte ≡ true → (j : ℕ) → j < countOf l →
+      speedOf (tagAt l j) ≡ true → (bits : List Bool) → length bits ≡ 64 → bits ≢ low 64 (numberOf (tagAt l j)) →
+      let s = run l (LineEvent.short ∷ map LineEvent.slot (low 8 byte ++ bits)) .end in
+      (es : List LineEvent) → AllAccepted s es → NoLong (heard j es) → NoShort (heard j es) → Silent (tagAt (run s es .end) j)
+  pub fast-awake : {l : Line} → FitLine l → (j : ℕ) → j < countOf l → speedOf (tagAt l j) ≡ true →
+      Silent (tagAt (after l LineEvent.short) j) → ⊥
+  -- "just after a long reset no tag is silent"
+  pub awake : {l : Line} → FitLine l → (j : ℕ) → j < countOf l → Silent (tagAt (after l LineEvent.reset) j) → ⊥
   -- "Skip reaches every tag": after a long reset all of them, by CCh and by 3Ch; after a short one those at overdrive
   pub skip : {l : Line} → FitLine l → (byte : ℕ) → among (0xCC ∷ 0x3C ∷ []) byte ≡ true → (place : ℕ) → place < countOf l →
       Chosen (tagAt (run l (LineEvent.reset ∷ map LineEvent.slot (low 8 byte)) .end) place)
   pub fast-skip : {l : Line} → FitLine l → (byte : ℕ) → among (0xCC ∷ 0x3C ∷ []) byte ≡ true → (place : ℕ) → place < countOf l →
       speedOf (tagAt l place) ≡ true → Chosen (tagAt (run l (LineEvent.short ∷ map LineEvent.slot (low 8 byte)) .end) place)
+  -- "so a password sent after Skip is sent to all of them": a Clear clears every tag that has no mission and whose password it is
+  pub clears-all : {l : Line} → FitLine l → (byte : ℕ) → among (0xCC ∷ 0x3C ∷ []) byte ≡ true → (field : ℕ) → field < 2 ^ 64 →
+      let end = run l (LineEvent.reset ∷ map LineEvent.slot (low 8 byte ++ (low 8 0x96 ++ (low 64 field ++ low 8 0xFF)))) .end in
+      (place : ℕ) → place < countOf l → PassesFull (tagAt l place) field → bitAt (tagAt l place .image) 0x0215 1 ≡ false →
+      Cleared (tagAt l place .image) (tagAt end place .image)

@@ -11,7 +11,6 @@ use lib.ListN.{length, getD, set, length-set, length-map}
 use lib.Seq.{length-take-le}
 use Rattle.bits.specs.Each.{each, each-next}
 use Rattle.event.specs.Event.{tickTag}
-use Rattle.record.specs.declared.Answered.{Answered}
 use Rattle.record.specs.declared.Tag.{Tag}
 use Rattle.record.specs.Record.{tagInRange}
 use Rattle.board.specs.declared.Board.{Board}
@@ -139,12 +138,11 @@ returns c =
     ∙ ap accepted (taken-tick (begun (a .block .now) (a .board)) (a .code) (a .place) (a .reading) (then .if2 .taken)
     ∙ reached-ticked (begun (a .block .now) (a .board)) (a .place) _ own (tick .result) (tick .last .0) (a .reading)
     (tick-low _ _ (pass (then .before) .low) (then .if2 .taken))
-    _ part (tick .ensures .0) (tick .ensures .1)) in
-    let high : tick .result .line ≡ true = ap (λ (x : Answered). x .line) (tick .ensures .0) in (
+    _ part (tick .ensures .0) (tick .ensures .1)) in (
       (λ i. record {
         board = of (set (a .board .tags) (a .place) (tick .result .tag)) (a .board .count);
         answer = zero-is (then .before) i;
-        line = sym high i;
+        line = tick .result .line;
       })
           ∙ sym (ap (λ (o : Left). o .shown) e),
       put-is (a .block .now) (a .place) (tick .last .0) ∙ sym (ap (λ (o : Left). o .block) e),

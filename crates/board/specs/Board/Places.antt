@@ -7,7 +7,7 @@ use Prim.Native.Nat.{ℕ, zero, suc, _+_, _*_, _-_, _≤_, _<_}
 use native.Mathlib.Decide.{decLt}
 use native.Mathlib.Nat.{le-of-suc-le-suc, not-suc-le-zero}
 use native.Mathlib.Omega.{arith}
-use lib.ListN.{length, getD, take, drop, length-append, length-drop, take-append-drop, List·getD-append}
+use lib.ListN.{length, getD, take, drop, length-append, length-drop, List·getD-append}
 use lib.Seq.{length-take-le, getD-set-same, getD-set-other, take-at, drop-at, ext-getD, getD-take, getD-drop, getD-append-add}
 use Rattle.bits.specs.Parts.{part-lent, length-part}
 use Rattle.record.specs.declared.Tag.{Tag}
@@ -23,12 +23,6 @@ Has block place = (place + 1) * 8832 ≤ length block
 module _ (block : List ℕ) (place : ℕ) where
   part-length : place * 8832 + 8832 - place * 8832 ≡ 8832
   part-length = omega arith
-
-  pub with-own : withImage block place (imageAt block place) ≡ block
-  unfolding withImage imageAt
-  with-own =
-      ap (λ (rest : List ℕ). take (place * 8832) block ++ rest) (take-append-drop 8832 (drop (place * 8832) block))
-      ∙ take-append-drop (place * 8832) block
 
   -- the part of a block that the code lends, and the block when it comes back
   pub part-is : take (place * 8832 + 8832 - place * 8832) (drop (place * 8832) block) ≡ imageAt block place

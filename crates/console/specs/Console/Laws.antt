@@ -1,9 +1,9 @@
 -- Laws of groups, of texts and of sessions. Assumes nothing.
 use mathlib.Core.Bool.{Bool, false}
-use mathlib.Core.List.{List, [], _∷_, _++_}
-use mathlib.Core.Path.{_≡_, refl, ap, _∙_}
-use Prim.Native.Nat.{ℕ, zero, suc, _+_, _*_, _-_, _/_, _%_, _≤_, _<_, min}
-use native.Mathlib.Nat.{add-assoc, add-zero, zero-add, div-eq-sub-div, div-eq-of-lt, div-le-of-le-mul, mod-le}
+use mathlib.Core.List.{List, [], _∷_}
+use mathlib.Core.Path.{_≡_, refl, _∙_}
+use Prim.Native.Nat.{ℕ, suc, _+_, _-_, _%_, _≤_, _<_, min}
+use native.Mathlib.Nat.{add-assoc, add-zero, zero-add, div-eq-sub-div, div-eq-of-lt, mod-le}
 use native.Mathlib.Numerals.{add-one}
 use native.Mathlib.Omega.{arith}
 use borrow.Author.Tests.{eqb-true, eq-eqb}
@@ -175,32 +175,3 @@ module _ {A : Type 0} (reply : List ℕ → A → List ℕ → Reply A) (size : 
   playing-all {lent} {out} {back} {number} {printed} {i} p h =
       let none : number ≡ 0 → length (drop i input) < size = λ last. rw length-drop (h last) in
       rw (following-none reply size number lent back (drop i input) none, add-zero, zero-add) at (p .rest)
-
--- ---- how much is printed
-
--- two bytes a group, and two more for a refusal
-pub text-length : {A : Type 0} (reply : List ℕ → A → List ℕ → Reply A) (lent : List ℕ) (back : A) (gs : List (List ℕ)) →
-    length (played reply lent back gs .text) ≤ 2 * length gs + 2
-unfolding played
-text-length reply lent back [] = omega arith
-text-length reply lent back (group ∷ gs) =
-    let r = reply lent back group in
-    let text : List ℕ = answerText (r .number) (r .line) in
-    either (λ (s : Session _). length (text ++ s .text) ≤ 2 * length (group ∷ gs) + 2) (eqb (r .number) 0)
-    (λ yes. rw length-append
-    (omega (arith, bit-length (r .number) (r .line) (eqb-true (r .number) 0 yes), text-length reply (r .lent) (r .back) gs)))
-    (λ no. rw length-append (omega (arith, answer-length (r .number) (r .line))))
-
-pub groups-length : (count size : ℕ) (bytes : List ℕ) → length (groups count size bytes) ≡ count
-unfolding groups
-groups-length zero size bytes = refl
-groups-length (suc count) size bytes = ap suc (groups-length count size (drop size bytes))
-
--- so the text of 65,536 bytes fits into as many, if a group has three or more
-pub text-fits : {A : Type 0} (reply : List ℕ → A → List ℕ → Reply A) (lent : List ℕ) (back : A) (size : ℕ) (input : List ℕ) →
-    3 ≤ size → length input ≤ 65536 → length (played reply lent back (groupsIn size input) .text) ≤ 65536
-unfolding groupsIn
-text-fits reply lent back size input three short =
-    let gs : List (List ℕ) = groups (length input / size) size input in
-    let few : length input / size ≤ 21846 = div-le-of-le-mul size (omega arith) in
-    omega (arith, text-length reply lent back gs, groups-length (length input / size) size input)

@@ -18,7 +18,7 @@ use Rattle.packing.specs.Packing.{packed}
 use Rattle.rack.specs.Rack.{rackOf}
 use Rattle.promises.specs.Library.{wordIn, digitOf, Holds, isRecord}
 use Rattle.promises.specs.Sentences.Events.{numberIn, ownNumber, clearTag}
-use Rattle.promises.specs.Several.{Line, countOf, leaves, twice, isMany, firstFault, Reached}
+use Rattle.promises.specs.Several.{Line, countOf, leaves, twice, isLine, firstFault, Reached}
 use Rattle.promises.specs.Words.{if_then_else_}
 
 -- ---- records
@@ -44,7 +44,7 @@ zerosOf (suc n) = (1 ∷ replicate 79 0) ++ zerosOf n
 -- "14, 3, 13, then place by place 4, 5": 14 also for another number of codes than of numbers, and 6, for the records' length, before 4
 unfoldable pub newLineNumber : List ℕ → List ℕ → List ℕ → List ℕ → ℕ
 newLineNumber block records numbers codes =
-    if not (isMany (length numbers)) || not (eqb (length codes) (length numbers)) then 14
+    if not (isLine (length numbers)) || not (eqb (length codes) (length numbers)) then 14
     else if not (eqb (length block) (length numbers * 8832)) then 3
     else if twice (length numbers) (λ i. getD numbers i 0) then 13
     else if not (eqb (length records) (length numbers * 80)) then 6
@@ -53,7 +53,7 @@ newLineNumber block records numbers codes =
 -- "14, 3, 13, then 6 over all the count's records, then 1, 2"; 14 also for "a tick whose place isn't below the count"
 unfoldable pub lineNumber : List ℕ → List ℕ → ℕ → ℕ → ℕ → ℕ → ℕ
 lineNumber block records count code place reading =
-    if not (isMany count) || (eqb code 3 && leb count place) then 14
+    if not (isLine count) || (eqb code 3 && leb count place) then 14
     else if not (eqb (length block) (count * 8832)) then 3
     else if twiceIn records count then 13
     else if not (eqb (length records) (count * 80) && each count (λ i. isRecord (recordIn records i))) then 6
@@ -63,7 +63,7 @@ lineNumber block records count code place reading =
 
 -- one to seven tags, their records as the types say, and past them those of all zeros
 pub record Lined (board : Board) : Type 0 where
-  pub few : isMany (board .count) ≡ true
+  pub few : isLine (board .count) ≡ true
   pub size : length (board .tags) ≡ 7
   pub holds : (i : ℕ) → i < board .count → Holds (tagAt board i)
   pub rest : (i : ℕ) → board .count ≤ i → tagAt board i ≡ clearTag 0 0
@@ -93,7 +93,7 @@ pub record LibraryLine : Type 2 where
       (r ≡ newLineNumber (now block) (now records) (now numbers) (now codes))
       × (r ≢ 0 → (now (exit .0) ≡ now block)
       × (now (exit .1 .0)
-      ≡ (if isMany (length (now numbers)) && eqb (length (now records)) (length (now numbers) * 80) then zerosOf (length (now numbers))
+      ≡ (if isLine (length (now numbers)) && eqb (length (now records)) (length (now numbers) * 80) then zerosOf (length (now numbers))
       else now records)))
   -- an event: "a refusal changes no tag", so no byte of block and records, and the line is 1
   pub events : (κs : _) (block : _) (records : _) (count code place reading : ℕ) (line : _) (r : ℕ) (exit : _) →

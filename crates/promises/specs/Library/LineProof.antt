@@ -39,7 +39,7 @@ use Rattle.promises.specs.Ranges.{isRom, isConfiguration, inRange}
 use Rattle.promises.specs.Ranges.Laws.{range-is}
 use Rattle.promises.specs.Sentences.Events.{numberIn, ownNumber, clearTag}
 use Rattle.promises.specs.Sentences.Events.Proof.{numbered, number-accepts}
-use Rattle.promises.specs.Several.{Line, countOf, leaves, twice, isMany, firstFault, newNumber, Reached}
+use Rattle.promises.specs.Several.{Line, countOf, leaves, twice, isLine, firstFault, newNumber, Reached}
 use Rattle.promises.specs.Several.Proof.{line-demand1}
 use Rattle.promises.specs.Several.Numbers.{twice-is, new-number}
 use Rattle.promises.specs.Words.{if_then_else_}
@@ -84,7 +84,7 @@ good-is records count few =
 judged-number : (count size : ℕ) (same held good fine : Bool) (code place reading : ℕ) →
     (isCount count ≡ true → (same ≡ held) × (good ≡ fine)) →
     numberIn (judgedBy count size same good code place reading)
-    ≡ (if not (isMany count) || (eqb code 3 && leb count place) then 14
+    ≡ (if not (isLine count) || (eqb code 3 && leb count place) then 14
     else if not (eqb size (count * 8832)) then 3
     else if held then 13
     else if not fine then 6
@@ -94,14 +94,14 @@ judged-number count size same held good fine code place reading known = by (isCo
   where
     by : (few : Bool) → isCount count ≡ few →
         numberIn (judgedBy count size same good code place reading)
-        ≡ (if not (isMany count) || (eqb code 3 && leb count place) then 14
+        ≡ (if not (isLine count) || (eqb code 3 && leb count place) then 14
         else if not (eqb size (count * 8832)) then 3
         else if held then 13
         else if not fine then 6
         else ownNumber code reading)
     by true few =
         (λ i. numberIn (judgedBy count size (known few .0 i) (known few .1 i) code place reading))
-        ∙ numbered (not (isMany count) || (eqb code 3 && leb count place)) Answer.TagPlace _ refl
+        ∙ numbered (not (isLine count) || (eqb code 3 && leb count place)) Answer.TagPlace _ refl
         (numbered (not (eqb size (count * 8832))) Answer.ImageLength _ refl
         (numbered held Answer.SameNumber _ refl
         (numbered (not fine) Answer.RecordRange _ refl
@@ -147,7 +147,7 @@ module _ (block records numbers codes : List ℕ) where
       let count = length numbers in
       calls.new-number block records numbers codes
       ∙ rw (ap numberIn (sym (board-laws.new-answer block numbers codes)) ∙ new-number block numbers codes)
-      (by (isMany count) (eqb (length codes) count) (eqb (length block) (count * 8832)) (twice count (λ i. getD numbers i 0))
+      (by (isLine count) (eqb (length codes) count) (eqb (length block) (count * 8832)) (twice count (λ i. getD numbers i 0))
       (eqb (length records) (count * 80)) (short-fault numbers codes))
     where
       first : (few many whole same : Bool) → ℕ
@@ -173,7 +173,7 @@ module _ (block records numbers codes : List ℕ) where
   had-room : newLineNumber block records numbers codes ≡ 0 → hasRoom (length records) (length numbers) ≡ true
   unfolding newLineNumber hasRoom isCount firsts
   had-room =
-      by (isMany (length numbers)) (eqb (length codes) (length numbers)) (eqb (length block) (length numbers * 8832))
+      by (isLine (length numbers)) (eqb (length codes) (length numbers)) (eqb (length block) (length numbers * 8832))
       (twice (length numbers) (λ i. getD numbers i 0)) (eqb (length records) (length numbers * 80))
     where
       by : (few many whole same fits : Bool) → firsts few many whole same fits ≡ 0 → (few && fits) ≡ true
@@ -205,7 +205,7 @@ rack-zeros count place (suc left) =
 
 zeros-left : (records numbers : List ℕ) →
     (if hasRoom (length records) (length numbers) then rackOf (emptyBoard (length numbers)) else records)
-    ≡ (if isMany (length numbers) && eqb (length records) (length numbers * 80) then zerosOf (length numbers) else records)
+    ≡ (if isLine (length numbers) && eqb (length records) (length numbers * 80) then zerosOf (length numbers) else records)
 unfolding hasRoom isCount rackOf emptyBoard
 zeros-left records numbers = by (isCount (length numbers)) refl (eqb (length records) (length numbers * 80))
   where

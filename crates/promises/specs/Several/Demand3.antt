@@ -44,14 +44,14 @@ pub record LinePremises (l m : Line) (E F : List LineEvent) : Type 0 where
   pub alike : AllAlike (countOf l) E F
   -- in neither run a field ends at this tag, while it is selected, that carries one of its passwords of either run: another tag's it may
   pub fields : (place : ℕ) → place < countOf l → NoneCarried (tagAt l place) (tagAt m place) (heard place E) (heard place F)
-  -- at the last bit of ECh of each tag that hears it
+  -- both or neither have an alarm flag at the last bit of ECh, of each tag that hears it
   pub alarms : (place : ℕ) → place < countOf l →
       alone.Together AlarmsAgree (tagAt l place) (heard place E) (tagAt m place) (heard place F)
 
 pub record LineConclusions (l m : Line) (E F : List LineEvent) : Type 0 where
   -- "every bit on the line is the same"
   pub line : run l E .line ≡ run m F .line
-  -- and each tag ends, on the line, as demand 3 says of it alone: as its own ticks leave it, but for Forced Conversions
+  -- and each tag ends, on the line, where it ends alone; and there as demand 3 says: as its own ticks leave it, but for Forced Conversions
   pub end-l : (place : ℕ) → place < countOf l → tagAt (run l E .end) place ≡ alone.run (tagAt l place) (heard place E) .state
   pub end-m : (place : ℕ) → place < countOf l → tagAt (run m F .end) place ≡ alone.run (tagAt m place) (heard place F) .state
   pub left-l : (place : ℕ) → place < countOf l → LeftToTicks (tagAt l place) (heard place E)

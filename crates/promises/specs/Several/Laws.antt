@@ -14,7 +14,7 @@ use Rattle.board.specs.Board as board
 use Rattle.board.specs.Board.{Going, Left, begun, reached, across, taken, accepted, judged, lineStep}
 use Rattle.board.specs.Board.Laws.{Passed, passed, counted, line-judged, line-taken, taken-tick, taken-given, tick-named, tick-low}
 use Rattle.board.specs.Board.Places.{Has, length-image}
-use Rattle.board.specs.Board.Visits.{Own, ownAt, Stays, stays-same, stays-then, visit-own, visit-other, across-own, across-line, reached-visits, line-stays}
+use Rattle.board.specs.Board.Visits.{Own, Stays, stays-same, stays-then, visit-own, visit-other, across-own, across-line, reached-visits, line-stays}
 use Rattle.event.specs.Event.{tickTag}
 use Rattle.record.specs.Record.{Outcome, tagInRange}
 use Rattle.select.specs.Select.{modeOf}
@@ -33,10 +33,6 @@ going l = begun (l .block) (l .board)
 
 abbrev pub stateOf : Own → State
 stateOf own = record { image = own .image; tag = own .tag }
-
-pub own-is : (l : Line) (place : ℕ) → stateOf (ownAt (going l) place) ≡ tagAt l place
-unfolding board.imageAt board.tagAt modeOf
-own-is l place = refl
 
 -- what stays of a line over events: the count, the lengths, and the records that are not looked at
 abbrev pub Remains : Line → Line → Type 0

@@ -23,7 +23,7 @@ use Rattle.promises.specs.Ranges.{isRom, isConfiguration, inRange}
 use Rattle.promises.specs.Ranges.Laws.{range-is}
 use Rattle.promises.specs.Sentences.Events.{numberIn, ownNumber}
 use Rattle.promises.specs.Sentences.Events.Proof.{numbered, rom-is}
-use Rattle.promises.specs.Several.{Line, countOf, tagAt, some, twice, isMany, lineNumber, firstFault, newNumber}
+use Rattle.promises.specs.Several.{Line, countOf, tagAt, some, twice, isLine, lineNumber, firstFault, newNumber}
 use Rattle.promises.specs.Words.{if_then_else_, numberOf}
 
 -- ---- two of the same
@@ -94,7 +94,7 @@ pub line-number : (l : Line) (code place reading : ℕ) →
     numberIn (lineStep (l .block) (l .board) code place reading .shown .answer) ≡ lineNumber l code place reading
 unfolding judged judgedBy isCount namesNone isHigh lineNumber ownNumber
 line-number l code place reading =
-    let many = isMany (countOf l) in
+    let many = isLine (countOf l) in
     ap numberIn (board-laws.line-answer (l .block) (l .board) code place reading)
     ∙ rw (same-is l (countOf l), ranges-are l (countOf l))
     (numbered (not many || (eqb code 3 && leb (countOf l) place)) Answer.TagPlace _ refl
@@ -124,7 +124,7 @@ fault-is numbers codes place (suc left) same end =
 pub new-number : (block numbers codes : List ℕ) → numberIn (newLine block numbers codes .shown .answer) ≡ newNumber block numbers codes
 unfolding newJudged isCount newNumber
 new-number block numbers codes =
-    let many = isMany (length numbers) in
+    let many = isLine (length numbers) in
     let paired = eqb (length codes) (length numbers) in
     ap numberIn (board-laws.new-answer block numbers codes)
     ∙ by many paired refl

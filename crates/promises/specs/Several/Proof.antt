@@ -1,22 +1,21 @@
 -- What holds of every line: a tag on it is a tag, demand 1, and that a Match touches no other. Assumes nothing.
 use mathlib.Core.Path.{_≡_, refl, sym, ap, subst, _∙_}
 use mathlib.Core.Bool.{Bool, true, false, not, _&&_, _||_, false≢true}
-use mathlib.Core.List.{List, [], _∷_, _++_, map, flatMap, append-nil, append-assoc}
-use mathlib.Core.Logic.{_≢_, _⊎_, inl, inr, dite, ⊎-elim}
-use Prim.Native.Nat.{ℕ, zero, suc, _*_, _^_, _<_, _≤_}
+use mathlib.Core.List.{List, [], _∷_}
+use mathlib.Core.Logic.{_≢_, dite}
+use Prim.Native.Nat.{ℕ, zero, suc, _*_, _<_, _≤_}
 use native.Mathlib.Decide.{ℕ-discrete}
 use native.Mathlib.Omega.{arith}
 use borrow.Author.Tests.{eqb-true, leb-true, ltb-false, eq-eqb, ne-eqb, lt-leb, le-ltb}
 use lib.Dec.{eqb, leb, ltb}
 use lib.ListN.{length, getD, take, drop, replicate, length-drop}
-use lib.Seq.{take-at, length-take-le}
+use lib.Seq.{length-take-le}
 use denote.Ref.{now}
 use Rattle.answer.specs.Answer.{answerNumber}
-use Rattle.bits.specs.Bits.{shiftAll}
-use Rattle.bits.specs.Bits.Laws.{heard-whole, length-bits}
-use Rattle.bits.specs.Each.{each, each-true}
+use Rattle.bits.specs.Choose.{choice}
+use Rattle.bits.specs.Each.{each-true, each-false}
 use Rattle.board.specs.Board as board
-use Rattle.board.specs.Board.{Left, lineStep, newLine, begun, emptyBoard}
+use Rattle.board.specs.Board.{Left, Going, lineStep, newLine, begun, across, newAt, emptyBoard}
 use Rattle.board.specs.Board.Laws as board-laws
 use Rattle.board.specs.Board.Visits.{across-own, new-visits, new-stays}
 use Rattle.board.specs.declared.Board.{Board}
@@ -26,24 +25,20 @@ use Rattle.select.specs.declared.Choosing.{Choosing}
 use Rattle.select.specs.declared.Mode.{Mode}
 use Rattle.select.specs.Select.{modeOf}
 use Rattle.tag.specs.Tag.{newTag}
-use Rattle.promises.specs.Overdrive.{NoLong, NoShort, slotsIn, Starts, ButSpeed}
-use Rattle.promises.specs.Overdrive.Proof.{overdrive}
 use Rattle.promises.specs.Ranges.{isRom, isConfiguration, inRange, Fit}
 use Rattle.promises.specs.Ranges.Laws.{fit-sound, fit-run, reached-fit}
 use Rattle.promises.specs.Runs as alone
-use Rattle.promises.specs.Runs.{State, Event, Always}
-use Rattle.promises.specs.Runs.Laws.{always-append, number-run, number-after, reached-run, sound-run}
+use Rattle.promises.specs.Runs.{State, Event}
+use Rattle.promises.specs.Runs.Laws.{number-run, reached-run}
 use Rattle.promises.specs.Sentences.Choosing.Proof.{choosing}
 use Rattle.promises.specs.Sentences.Events as events
 use Rattle.promises.specs.Sentences.Events.{numberIn, ownNumber, clearTag}
 use Rattle.promises.specs.Sentences.Events.Proof as events-proof
 use Rattle.promises.specs.Sentences.Events.Proof.{number-accepts}
-use Rattle.promises.specs.Several.{Line, countOf, tagAt, Seven, LineEvent, happens, leaves, after, Accepts, run, AllAccepted, hears, heard, OneTag, twice, isMany, lineNumber, firstFault, newNumber, Defined, outcome, noBoard, Reached, FitLine, Valid, LineDemand1, Unselected, LeftAlone, Elsewhere, Resumes, stretches, Each, TouchesNoOther}
-use Rattle.promises.specs.Several.Aside.{Opens, Listens, left-aside, reset-listens, stretch-aside, reset-plain}
+use Rattle.promises.specs.Several.{Line, countOf, tagAt, Seven, LineEvent, happens, leaves, after, Accepts, run, AllAccepted, hears, OneTag, twice, isLine, lineNumber, firstFault, newNumber, Defined, outcome, noBoard, Reached, FitLine, Valid, LineDemand1}
 use Rattle.promises.specs.Several.Laws.{stateOf, event-remains, event-tag, run-remains, run-tag, run-line}
 use Rattle.promises.specs.Several.Numbers.{twice-own, twice-none, line-number, new-number}
-use Rattle.promises.specs.Words.{if_then_else_, among, low, numberOf, Chosen}
-use Rattle.promises.specs.Words.Laws.{low-is}
+use Rattle.promises.specs.Words.{if_then_else_, numberOf}
 
 -- ---- a tag on the line is a tag
 
@@ -57,6 +52,7 @@ one-tag =
       tags = run-tag;
       line = run-line;
       count = λ l es. run-remains l es .count;
+      size = λ l es. run-remains l es .size;
       past = run-past;
     }
 
@@ -105,9 +101,9 @@ blank-at zero i tag = refl
 blank-at (suc n) zero tag = refl
 blank-at (suc n) (suc i) tag = blank-at n i tag
 
--- what a new line has passed that is accepted, in this paper's words
+-- what a new line has passed that is accepted, in the words of `Several`
 record Good (block numbers codes : List ℕ) : Type 0 where
-  many : isMany (length numbers) ≡ true
+  many : isLine (length numbers) ≡ true
   paired : length codes ≡ length numbers
   size : length block ≡ length numbers * 8832
   apart : twice (length numbers) (λ i. getD numbers i 0) ≡ false
@@ -116,9 +112,9 @@ record Good (block numbers codes : List ℕ) : Type 0 where
 good : (block numbers codes : List ℕ) → newNumber block numbers codes ≡ 0 → Good block numbers codes
 unfolding newNumber
 good block numbers codes =
-    by (isMany (length numbers)) (eqb (length codes) (length numbers)) (eqb (length block) (length numbers * 8832)) (twice (length numbers) (λ i. getD numbers i 0)) refl refl refl refl
+    by (isLine (length numbers)) (eqb (length codes) (length numbers)) (eqb (length block) (length numbers * 8832)) (twice (length numbers) (λ i. getD numbers i 0)) refl refl refl refl
   where
-    by : (m p s t : Bool) → isMany (length numbers) ≡ m → eqb (length codes) (length numbers) ≡ p → eqb (length block) (length numbers * 8832) ≡ s →
+    by : (m p s t : Bool) → isLine (length numbers) ≡ m → eqb (length codes) (length numbers) ≡ p → eqb (length block) (length numbers * 8832) ≡ s →
         twice (length numbers) (λ i. getD numbers i 0) ≡ t → (if not m || not p then 14 else if not s then 3 else if t then 13 else firstFault numbers codes) ≡ 0 →
         Good block numbers codes
     by true true true false m p s t e =
@@ -128,7 +124,7 @@ good block numbers codes =
     by true true false t m q r u e = absurd (omega (arith, e))
     by true true true true m q r u e = absurd (omega (arith, e))
 
-many-some : (count : ℕ) → isMany count ≡ true → count ≤ 7
+many-some : (count : ℕ) → isLine count ≡ true → count ≤ 7
 many-some count e = by (leb 1 count) (leb count 7) refl e
   where
     by : (a b : Bool) → leb count 7 ≡ b → (a && b) ≡ true → count ≤ 7
@@ -136,7 +132,7 @@ many-some count e = by (leb 1 count) (leb count 7) refl e
     by true false p e = absurd (false≢true e)
     by false b p e = absurd (false≢true e)
 
-pub many-any : (count : ℕ) → isMany count ≡ true → 0 < count
+pub many-any : (count : ℕ) → isLine count ≡ true → 0 < count
 many-any count e = by (leb 1 count) refl e
   where
     by : (a : Bool) → leb 1 count ≡ a → (a && leb count 7) ≡ true → 0 < count
@@ -227,7 +223,7 @@ module _ (block numbers codes : List ℕ) (zero-is : newNumber block numbers cod
   new-fit =
       record {
         seven = made .0;
-        many = ap isMany (made .1) ∙ fine .many;
+        many = ap isLine (made .1) ∙ fine .many;
         size = made .2 ∙ fine .size ∙ ap (λ (n : ℕ). n * 8832) (sym (made .1));
         apart = λ i j hi hj same.
             let below : (k : ℕ) → k < countOf new → k < length numbers = λ k h. subst (λ (n : ℕ). k < n) (made .1) h in
@@ -237,7 +233,7 @@ module _ (block numbers codes : List ℕ) (zero-is : newNumber block numbers cod
 
 -- ---- a fit line
 
-fit-after : {l : Line} (e : LineEvent) → FitLine l → Accepts l e → FitLine (after l e)
+pub fit-after : {l : Line} (e : LineEvent) → FitLine l → Accepts l e → FitLine (after l e)
 fit-after {l} e fit ok =
     let stays = event-remains l e in
     let below : (k : ℕ) → k < countOf (after l e) → k < countOf l = λ k h. subst (λ (n : ℕ). k < n) (stays .count) h in
@@ -246,7 +242,7 @@ fit-after {l} e fit ok =
     λ k h. ap numberOf (tag k h) ∙ number-run (hears k e) (fit-sound (fit .tags k h)) in
     record {
       seven = stays .tags ∙ fit .seven;
-      many = ap isMany (stays .count) ∙ fit .many;
+      many = ap isLine (stays .count) ∙ fit .many;
       size = stays .size ∙ fit .size ∙ ap (λ (n : ℕ). n * 8832) (sym (stays .count));
       apart = λ i j hi hj same. fit .apart i j (below i hi) (below j hj) (sym (number i (below i hi)) ∙ same ∙ number j (below j hj));
       tags = λ place h. subst Fit (sym (tag place (below place h))) (fit-run (fit .tags place (below place h)) (hears place e));
@@ -288,6 +284,11 @@ fit-valid {l} fit (LineEvent.tick place reading) valid =
     number-accepts (fit-number fit 3 place reading ∙ rw (lt-leb (countOf l) place (valid .0), le-ltb 2047 reading (valid .1)) refl)
 fit-valid fit LineEvent.short valid = number-accepts (fit-number fit 4 0 0)
 
+-- the tag after a long reset of the line
+pub after-reset : {l : Line} → FitLine l → (j : ℕ) → j < countOf l → tagAt (after l LineEvent.reset) j ≡ alone.after (tagAt l j) Event.reset
+unfolding alone.run
+after-reset {l} fit j h = event-tag l (fit .seven) LineEvent.reset (fit-valid fit LineEvent.reset tt) j h
+
 -- the event that a code of 0 to 4 is
 pub event-of : (code place reading : ℕ) → code ≤ 4 →
     (e : LineEvent) × ((l : Line) → lineStep (l .block) (l .board) code place reading ≡ happens l e)
@@ -323,7 +324,35 @@ again {l} r code place reading =
     let left = d .refusal (λ zero. some (d .answer ∙ zero)) in
     subst Reached (λ i. record { block = sym (left .2) i; board = sym (left .1) i }) r)
 
+-- ---- what the rulings say of it
+
+-- a new line gives 1
+made-high : (numbers codes : List ℕ) (n : ℕ) (l : Going) → l .line ≡ true → across (newAt numbers codes) 0 n l .line ≡ true
+unfolding across newAt
+made-high numbers codes zero l high = high
+made-high numbers codes (suc n) l high = rw (board-laws.across-last (newAt numbers codes) n l) refl
+
+new-high : (block numbers codes : List ℕ) → newLine block numbers codes .shown .line ≡ true
+unfolding newLine
+new-high block numbers codes =
+    choice (λ (o : Left). o .shown .line ≡ true) (eqb (answerNumber (board.newJudged (length block) numbers codes)) 0)
+    (made-high numbers codes (length numbers) (begun block (emptyBoard (length numbers))) refl) refl
+
+broken : (l : Line) (i : ℕ) → i < countOf l → inRange (tagAt l i .tag) ≡ false → (code place reading : ℕ) → lineNumber l code place reading ≢ 0
+unfolding lineNumber
+broken l i h bad code place reading =
+    rw (each-false (countOf l) (λ k. inRange (tagAt l k .tag)) i h bad)
+    (by (not (isLine (countOf l)) || (eqb code 3 && leb (countOf l) place)) (not (eqb (length (l .block)) (countOf l * 8832)))
+    (twice (countOf l) (λ k. numberOf (tagAt l k))))
+  where
+    by : (a b c : Bool) → _≢_ {A = ℕ} (if a then 14 else if b then 3 else if c then 13 else 6) 0
+    by true b c e = absurd (omega (arith, e))
+    by false true c e = absurd (omega (arith, e))
+    by false false true e = absurd (omega (arith, e))
+    by false false false e = absurd (omega (arith, e))
+
 pub line-demand1 : LineDemand1
+unfolding lineNumber
 line-demand1 =
     record {
       any-event = λ κs block given code place reading. tt;
@@ -332,10 +361,16 @@ line-demand1 =
           allowed (p .0) (p .1) (line-defined (record { block = now block; board = given }) code place reading);
       unread = unread;
       news = λ κs block numbers codes r exit p. allowed (p .0) (p .1) (new-defined (now block) (now numbers) (now codes));
+      new-bit = new-high;
+      none = λ block code place reading. refl;
+      broken = broken;
       made = made;
       reached = reached-line;
       stays-fit = fit-after;
       again = again;
+      begins = λ {l} r place h.
+          let known = reached-line r in
+          record { before = tagAt l place; reached = known .1 place h; reset = after-reset (known .0) place h };
       fit = fit-number;
       valid = fit-valid;
     }
@@ -354,139 +389,3 @@ valid-accepted {l} fit (e ∷ es) valid =
       ok,
       valid-accepted (fit-after e fit ok) es (subst (λ (n : ℕ). AllValid n es) (sym (event-remains l e .count)) (valid .1)),
     )
-
-slots-valid : (count : ℕ) (bits : List Bool) → AllValid count (map LineEvent.slot bits)
-unfolding AllValid
-slots-valid count [] = tt
-slots-valid count (bit ∷ bits) = (tt, slots-valid count bits)
-
--- ---- a tag that is not chosen
-
-aside : {l : Line} → FitLine l → (es : List LineEvent) → AllAccepted l es → (j : ℕ) → j < countOf l →
-    Always Unselected (tagAt l j) (heard j es) → LeftAlone (tagAt l j) (heard j es) (tagAt (run l es .end) j)
-aside {l} fit es ok j h never =
-    subst (LeftAlone (tagAt l j) (heard j es)) (sym (run-tag l (fit .seven) es ok j h)) (left-aside (fit-sound (fit .tags j h)) (heard j es) never)
-
-heard-append : (j : ℕ) (es fs : List LineEvent) → heard j (es ++ fs) ≡ heard j es ++ heard j fs
-unfolding flatMap
-heard-append j [] fs = refl
-heard-append j (e ∷ es) fs = ap (λ (rest : List Event). hears j e ++ rest) (heard-append j es fs) ∙ sym (append-assoc (hears j e) (heard j es) (heard j fs))
-
--- a stretch after the first is begun by a Match with another number, or by Resume
-abbrev Begun : ℕ → ℕ → List LineEvent → Type 0
-Begun number j es = Elsewhere number (heard j es) ⊎ Resumes (heard j es)
-
-never-chosen : (number j : ℕ) {s : State} → Listens s → numberOf s ≡ number → (first : List LineEvent) (rest : List (List LineEvent)) →
-    Opens number (s .tag .exchange .select .mode) (heard j first) → Each (Begun number j) rest → Always Unselected s (heard j (stretches first rest))
-unfolding stretches Each Always flatMap
-never-chosen number j listens own first [] opens each = stretch-aside listens (heard j first) (rw own opens) .0
-never-chosen number j {s} listens own first (next ∷ rest) opens each =
-    let ran = stretch-aside listens (heard j first) (rw own opens) in
-    let end = alone.run s (heard j first) .state in
-    let sound = sound-run (heard j first) (listens .sound) in
-    let again = reset-listens sound in
-    let plain = reset-plain sound (ran .2) in
-    let same = number-after Event.reset sound ∙ number-run (heard j first) (listens .sound) ∙ own in
-    let opened : Opens number (alone.after end Event.reset .tag .exchange .select .mode) (heard j next) =
-    ⊎-elim (λ e. inl e) (λ r. inr (r, plain)) (each .0) in
-    subst (Always Unselected s) (sym (heard-append j first (LineEvent.reset ∷ stretches next rest)))
-    (always-append Unselected s (heard j first) (Event.reset ∷ heard j (stretches next rest)) (ran .0)
-    (ran .1, never-chosen number j again same next rest opened (each .1)))
-
--- the tag after a long reset of the line
-after-reset : {l : Line} → FitLine l → (j : ℕ) → j < countOf l → tagAt (after l LineEvent.reset) j ≡ alone.after (tagAt l j) Event.reset
-unfolding alone.run
-after-reset {l} fit j h = event-tag l (fit .seven) LineEvent.reset (fit-valid fit LineEvent.reset tt) j h
-
-touched-not : {l : Line} → FitLine l → (j : ℕ) → j < countOf l → let s = after l LineEvent.reset in
-    (first : List LineEvent) (rest : List (List LineEvent)) → AllAccepted s (stretches first rest) →
-    Elsewhere (numberOf (tagAt l j)) (heard j first) → Each (Begun (numberOf (tagAt l j)) j) rest →
-    LeftAlone (tagAt s j) (heard j (stretches first rest)) (tagAt (run s (stretches first rest) .end) j)
-touched-not {l} fit j h first rest ok elsewhere each =
-    let reset = fit-valid fit LineEvent.reset tt in
-    let here : j < countOf (after l LineEvent.reset) = subst (λ (n : ℕ). j < n) (sym (event-remains l LineEvent.reset .count)) h in
-    let sound = fit-sound (fit .tags j h) in
-    let same = after-reset fit j h in
-    aside (fit-after LineEvent.reset fit reset) (stretches first rest) ok j here
-    (subst (λ (u : State). Always Unselected u (heard j (stretches first rest))) (sym same)
-    (never-chosen (numberOf (tagAt l j)) j (reset-listens sound) (number-after Event.reset sound) first rest (inl elsewhere) each))
-
--- ---- a grower's Match
-
-first-same : (n : ℕ) (a b p q : List Bool) → length a ≡ n → length b ≡ n → a ++ p ≡ b ++ q → a ≡ b
-first-same n a b p q la lb e = sym (take-at a p n la) ∙ ap (take n) e ∙ take-at b q n lb
-
-low-own : (m n : ℕ) → m < 2 ^ 64 → n < 2 ^ 64 → low 64 m ≡ low 64 n → m ≡ n
-low-own m n hm hn e =
-    sym (heard-whole 64 {r = 0} (omega arith) hm) ∙ ap (shiftAll 64 0) (sym (low-is 64 m) ∙ e ∙ low-is 64 n) ∙ heard-whole 64 {r = 0} (omega arith) hn
-
-grower : {l : Line} → FitLine l → ((place : ℕ) → place < countOf l → numberOf (tagAt l place) < 2 ^ 64) →
-    (i j : ℕ) → i < countOf l → j < countOf l → i ≢ j → (byte : ℕ) → among (0x55 ∷ 0x69 ∷ []) byte ≡ true →
-    (es : List LineEvent) → NoLong (heard j es) → Starts (low 8 byte ++ low 64 (numberOf (tagAt l i))) (slotsIn (heard j es)) →
-    Elsewhere (numberOf (tagAt l j)) (heard j es)
-grower {l} fit small i j hi hj apart byte match es none starts =
-    let ni = numberOf (tagAt l i) in
-    let nj = numberOf (tagAt l j) in
-    let long : (n : ℕ) → length (low 64 n) ≡ 64 = λ n. ap length (low-is 64 n) ∙ length-bits 64 n in
-    record {
-      none = none;
-      byte = byte;
-      match = match;
-      bits = low 64 ni ++ starts .0;
-      slots = starts .1 ∙ append-assoc (low 8 byte) (low 64 ni) (starts .0);
-      other = λ own. apart (fit .apart i j hi hj
-          (low-own ni nj (small i hi) (small j hj) (first-same 64 (low 64 ni) (low 64 nj) (starts .0) (own .0) (long ni) (long nj) (own .1))));
-    }
-
--- ---- Skip
-
-heard-slots : (place : ℕ) (bits : List Bool) → heard place (map LineEvent.slot bits) ≡ map Event.slot bits
-unfolding flatMap
-heard-slots place [] = refl
-heard-slots place (bit ∷ bits) = ap (_∷_ (Event.slot bit)) (heard-slots place bits)
-
-two-skips : (P : ℕ → Type 0) → P 0xCC → P 0x3C → (byte : ℕ) → among (0xCC ∷ 0x3C ∷ []) byte ≡ true → P byte
-unfolding among
-two-skips P p q byte = by (eqb byte 0xCC) (eqb byte 0x3C) refl refl
-  where
-    by : (a b : Bool) → eqb byte 0xCC ≡ a → eqb byte 0x3C ≡ b → (a || (b || false)) ≡ true → P byte
-    by true b e f t = rw (eqb-true byte 0xCC e) p
-    by false true e f t = rw (eqb-true byte 0x3C f) q
-    by false false e f t = absurd (false≢true t)
-
-skip-alone : {s : State} → Fit s → (byte : ℕ) → among (0xCC ∷ 0x3C ∷ []) byte ≡ true →
-    Chosen (alone.run s (Event.reset ∷ map Event.slot (low 8 byte)) .state)
-skip-alone {s} fit =
-    two-skips (λ byte. Chosen (alone.run s (Event.reset ∷ map Event.slot (low 8 byte)) .state))
-    (rw (append-nil (low 8 0xCC)) at (choosing .skip fit .1)) (rw (append-nil (low 8 0x3C)) at (choosing .fast-skip fit .1))
-
-no-shorts : (bits : List Bool) → NoShort (map Event.slot bits)
-unfolding NoShort
-no-shorts [] = tt
-no-shorts (bit ∷ bits) = no-shorts bits
-
--- a tag that differs in the speed alone is chosen too
-chosen-but : (s t : State) → ButSpeed s t → Chosen s → Chosen t
-chosen-but s t but c = rw but (record { chosen = c .chosen; bus = c .bus })
-
-skip-line : {l : Line} → FitLine l → (first : LineEvent) → Valid (countOf l) first → (bits : List Bool) → (place : ℕ) → place < countOf l →
-    tagAt (run l (first ∷ map LineEvent.slot bits) .end) place ≡ alone.run (tagAt l place) (hears place first ++ map Event.slot bits) .state
-unfolding flatMap AllValid
-skip-line {l} fit first valid bits place h =
-    let es = first ∷ map LineEvent.slot bits in
-    run-tag l (fit .seven) es (valid-accepted fit es (valid, slots-valid (countOf l) bits)) place h
-    ∙ ap (λ (rest : List Event). alone.run (tagAt l place) (hears place first ++ rest) .state) (heard-slots place bits)
-
-pub touches-no-other : TouchesNoOther
-touches-no-other =
-    record {
-      unselected = aside;
-      match = touched-not;
-      grower = grower;
-      skip = λ {l} fit byte known place h.
-          rw (skip-line fit LineEvent.reset tt (low 8 byte) place h) (skip-alone (fit .tags place h) byte known);
-      fast-skip = λ {l} fit byte known place h speed.
-          rw (skip-line fit LineEvent.short tt (low 8 byte) place h)
-          (chosen-but _ _ (overdrive .begun (fit .tags place h) speed (map Event.slot (low 8 byte)) (no-shorts (low 8 byte)) .1)
-          (skip-alone (fit .tags place h) byte known));
-    }
