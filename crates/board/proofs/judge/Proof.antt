@@ -1,11 +1,13 @@
 -- `board::judge` meets its contract: the checks in their order. Assumes nothing.
 use mathlib.Core.Bool.{true, false}
-use mathlib.Core.Path.{_≡_, sym, _∙_}
+use mathlib.Core.Path.{_≡_, refl, sym, _∙_}
 use Prim.Native.Nat.{_*_}
 use lib.Dec.{eqb}
 use borrow.Author.Needs.{needs}
 use borrow.Author.Tests.{eq-eqb, ne-eqb, lt-ltb, le-ltb, not-false}
-use Rattle.board.specs.Board.{isCount, namesNone, judgedBy}
+use Rattle.answer.specs.declared.Answer.{Answer}
+use Rattle.bits.specs.Choose.{if_then_else_}
+use Rattle.board.specs.Board.{isCount, namesNone, isHigh, judgedBy}
 use Rattle.board.proofs.judge.Statement.{statement}
 use Rattle.board.proofs.judge.Tie as tie
 
@@ -50,37 +52,28 @@ returns-6 c =
     let third = c .before .before .before in
     simp (counted (third .before .before .before), named (third .before), sized third, c .before .before .if4 .left, c .before .if5 .left, lt-ltb _ _ (c .if6 .taken))
 
-returns-7 : tie.Need-returns-7
+-- all but the reading is asked
+asked : (c : tie.Else6) →
+    let a = c .before .before .before .before .before .before .before .before .args in
+    judgedBy (a .count) (a .size) (a .same) (a .good) (a .code) (a .place) (a .reading)
+    ≡ (if isHigh (a .code) (a .reading) then Answer.Reading else Answer.Accepted)
 unfolding judgedBy
-returns-7 c =
-    let sixth = c .before .before in
-    let third = sixth .before .before .before in
+asked c =
+    let third = c .before .before .before in
     simp (
       counted (third .before .before .before),
       named (third .before),
       sized third,
-      sixth .before .before .if4 .left,
-      sixth .before .if5 .left,
-      le-ltb _ _ (sixth .if6 .left),
-      ← c .before .is-high .ensures,
-      c .if7 .taken,
+      c .before .before .if4 .left,
+      c .before .if5 .left,
+      le-ltb _ _ (c .if6 .left),
     )
 
+returns-7 : tie.Need-returns-7
+returns-7 c = sym (asked (c .before .before) ∙ rw (← c .before .is-high .ensures, c .if7 .taken) refl)
+
 returns-8 : tie.Need-returns-8
-unfolding judgedBy
-returns-8 c =
-    let sixth = c .before .before in
-    let third = sixth .before .before .before in
-    simp (
-      counted (third .before .before .before),
-      named (third .before),
-      sized third,
-      sixth .before .before .if4 .left,
-      sixth .before .if5 .left,
-      le-ltb _ _ (sixth .if6 .left),
-      ← c .before .is-high .ensures,
-      c .if7 .left,
-    )
+returns-8 c = sym (asked (c .before .before) ∙ rw (← c .before .is-high .ensures, c .if7 .left) refl)
 
 pub judge-spec : {M : Type 1} → statement M
 judge-spec =

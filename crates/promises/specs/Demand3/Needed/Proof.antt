@@ -53,11 +53,11 @@ alike-slots bits s t = alike-each Event.slot Event.slot Alike.slots s t bits
 
 -- ---- the passwords
 
-wrong-first : NoneOf wrong (first .image)
+pub wrong-first : NoneOf wrong (first .image)
 unfolding wordAt
 wrong-first = none-of-keys wrong (first-prepared .keyed) refl refl
 
-wrong-second : NoneOf wrong (second .image)
+pub wrong-second : NoneOf wrong (second .image)
 unfolding wordAt
 wrong-second = none-of-keys wrong (second-prepared .keyed) refl refl
 

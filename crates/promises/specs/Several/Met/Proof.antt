@@ -29,6 +29,7 @@ use Rattle.promises.specs.Demand3.{EndsField, Alike, NoPassword, NoneCar
 use Rattle.promises.specs.Demand3.Needed.{Sometime}
 use Rattle.promises.specs.Demand3.Needed.Keys.{HasKeys, keys-stored, none-of-keys}
 use Rattle.promises.specs.Demand3.Needed.Owner.{Ready, stored, stored-owned, ready, is-ready, waiting}
+use Rattle.promises.specs.Demand3.Needed.Proof.{wrong-first, wrong-second}
 use Rattle.promises.specs.Demand3.Needed.Stranger.{wrong, field, fieldSeen, ends-seen, readings-differ}
 use Rattle.promises.specs.Demand3.Needed.Tags.{pad, number, fresh, madeWith, with-owned, fresh-off, fresh-idle, first, second, first-prepared, second-prepared}
 use Rattle.promises.specs.Demand3.Needed.Walk.{harmless, asksHarmless, denied, harmlessAll, deniedAll, NoneOf, denies-run, harmless-premises}
@@ -200,14 +201,6 @@ unfolding harmlessAll asksHarmless harmless denied asks slotOf memory.asks memor
     select.slotOf select.slotAt select.commandBit select.romCommand select.heardBit select.following select.isChosen select.endsCommand
     select.markIn select.speedIn select.modeOf bitsOf bitOf shiftIn flatMap
 first-harmless reading = refl
-
-wrong-first : NoneOf wrong (first .image)
-unfolding wordAt
-wrong-first = none-of-keys wrong (first-prepared .keyed) refl refl
-
-wrong-second : NoneOf wrong (second .image)
-unfolding wordAt
-wrong-second = none-of-keys wrong (second-prepared .keyed) refl refl
 
 first-alike : alone.Together (λ u e v f. Alike e f) first (firstHears 672) second (firstHears 1391)
 unfolding alone.Together
