@@ -80,25 +80,26 @@ good-is records count few =
     ∙ ap (λ (b : Bool). eqb (length records) (count * 80) && b)
     (each-both count (λ i. isPacked (recordAt records i)) (λ i. inRange (unpacked (recordAt records i))))
 
+-- `lineNumber`, once it is known whether two numbers are the same and all records are fine
+abbrev numberBy : (count size : ℕ) (held fine : Bool) (code place reading : ℕ) → ℕ
+numberBy count size held fine code place reading =
+    if not (isLine count) || (eqb code 3 && leb count place) then 14
+    else if not (eqb size (count * 8832)) then 3
+    else if held then 13
+    else if not fine then 6
+    else ownNumber code reading
+
 -- the number of what is judged; two numbers and the records count only where the count is one
 judged-number : (count size : ℕ) (same held good fine : Bool) (code place reading : ℕ) →
     (isCount count ≡ true → (same ≡ held) × (good ≡ fine)) →
     numberIn (judgedBy count size same good code place reading)
-    ≡ (if not (isLine count) || (eqb code 3 && leb count place) then 14
-    else if not (eqb size (count * 8832)) then 3
-    else if held then 13
-    else if not fine then 6
-    else ownNumber code reading)
+    ≡ numberBy count size held fine code place reading
 unfolding judgedBy isCount namesNone isHigh ownNumber
 judged-number count size same held good fine code place reading known = by (isCount count) refl
   where
     by : (few : Bool) → isCount count ≡ few →
         numberIn (judgedBy count size same good code place reading)
-        ≡ (if not (isLine count) || (eqb code 3 && leb count place) then 14
-        else if not (eqb size (count * 8832)) then 3
-        else if held then 13
-        else if not fine then 6
-        else ownNumber code reading)
+        ≡ numberBy count size held fine code place reading
     by true few =
         (λ i. numberIn (judgedBy count size (known few .0 i) (known few .1 i) code place reading))
         ∙ numbered (not (isLine count) || (eqb code 3 && leb count place)) Answer.TagPlace _ refl
