@@ -1,5 +1,7 @@
 // What every call of the tag and of the dock answers: accepted, or why not. One list for both, in the order of document 01's table and
 // of the numbers that the change requests add to it.
+#![tactic(auto)]
+
 ghost use Rattle.std.specs.Prelude.{◌≡◌};
 ghost use Rattle.answer.specs.Answer.{answer_number, refusal_text};
 ghost use Rattle.answer.specs.Answer.Laws.{place_of};

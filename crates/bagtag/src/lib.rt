@@ -1,6 +1,8 @@
 // The library for C: the tag's and the dock's calls on numbers and lent bytes alone, with the record packed into 80 of them. Each answers
 // whatever it is given, by document 01's numbers; include/bagtag.h says it to who calls. Beside its equations a contract says what the
 // types do: that the record's slice is of bytes, and that the record it leaves fits them. So a refusal that packs it again changes no byte.
+#![tactic(auto)]
+
 ghost use Rattle.std.specs.Prelude.{◌≡◌, length};
 ghost use Rattle.std.proofs.lemmas.List.Edits.{sets};
 ghost use Rattle.bits.specs.Bytes.{Bytes};

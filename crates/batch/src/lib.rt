@@ -1,5 +1,7 @@
 // Many events in one call: a list of words, and beside it a lent byte for each reply. Room, image and record are asked for once;
 // after that each word is one event of the tag, without asking again.
+#![tactic(auto)]
+
 ghost use Rattle.std.specs.Prelude.{◌≡◌};
 ghost use Rattle.batch.specs.Batch.{is_code, is_event, returned, listed};
 ghost use Rattle.batch.specs.Batch.Laws.{event_in};

@@ -1,5 +1,7 @@
 // Numbers as the line carries them, low bit first: one bit of a number, a register that a bit is shifted into, and where two numbers part.
 // Every function answers any input.
+#![tactic(auto)]
+
 ghost use Rattle.std.specs.Prelude.{◌≡◌};
 ghost use Rattle.bits.specs.Bits.{digit, bit_of, shift_in};
 ghost use Rattle.bits.specs.Parting.{parting_of};

@@ -1,6 +1,8 @@
 // Several tags on one line: up to seven records with a count, and one lent block in which each tag has its image. A slot or a reset goes
 // to all of them, and the line bit is the AND of theirs; a tick goes to the tag at its place. All is judged before anything is done: so a
 // refusal changes nothing, wherever the fault stands.
+#![tactic(auto)]
+
 ghost use Rattle.std.specs.Prelude.{◌&&◌, ◌≡◌, length, get_or};
 ghost use Rattle.board.specs.Board.{is_count, names_none, is_high, same_number, judged_by, line_step, new_fault, new_judged, new_line};
 ghost use Rattle.board.specs.Board.Laws.{places_of, heard};

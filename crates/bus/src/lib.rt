@@ -1,6 +1,8 @@
 // The bus state of the memory commands, and scratchpad, TA and E/S, by value: what a slot finds and what it leaves. What must be known
 // of the image is a `Question`, what is to be done to it a `Deed`. A packed record has a stage, and the cases within it, by their places here
 // (crate `packing`): a new one goes last.
+#![tactic(auto)]
+
 ghost use Rattle.std.specs.Prelude.{◌≡◌};
 ghost use Rattle.bus.specs.Bus.{new_held};
 

@@ -1,6 +1,8 @@
 // The clock's six BCD fields, one second on. A field at its last value, or not valid, returns to its lowest and carries to
 // the next; a field is looked at only when it steps. The hours run in the form that their bit 6 gives. Every function answers any
 // six bytes.
+#![tactic(auto)]
+
 ghost use Rattle.std.specs.Prelude.{true, false, ◌≡◌};
 ghost use Rattle.calendar.specs.Calendar.{is_valid, step_along, twelve_hours, step_field, step_hours, step_month, is_leap, days_in, flipped, next_day, next_second};
 

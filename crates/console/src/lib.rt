@@ -1,4 +1,6 @@
 // What the programs that play events share: whole groups of bytes from standard input, the text of an answer, and printing it.
+#![tactic(auto)]
+
 ghost use Rattle.std.specs.Prelude.{true, not, [], ◌≡◌, ◌≤◌, ◌+◌, ◌%◌, min, eqb, length, take};
 ghost use Rattle.std.proofs.lemmas.List.Edits.{sets};
 ghost use Rattle.answer.specs.Answer.{answer_number, refusal_text};

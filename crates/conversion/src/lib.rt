@@ -1,5 +1,7 @@
 // One conversion of a mission: it is counted, stored, held against the thresholds and logged. Beside it the clock, which sets the
 // stamp. Every function answers an image of any length and bytes, and any reading.
+#![tactic(auto)]
+
 ghost use Rattle.std.specs.Prelude.{◌≡◌};
 ghost use Rattle.conversion.specs.Conversion.{converted, taken, device_counted, latest_stored, resolved, thf_set, tlf_set, ended};
 

@@ -1,5 +1,7 @@
 // CRC-8 and CRC-16 of the 1-Wire line, low bit first. CRC-16 goes by half-bytes, from tables (`halves`). CRC-8 goes bit by bit: with its
 // polynomial a constant in the loop, the compiler makes a table of it. Every function answers any input.
+#![tactic(auto)]
+
 ghost use Rattle.std.specs.Prelude.{[], ◌∷◌, ◌≡◌};
 ghost use Rattle.bits.specs.Bits.{bit_of};
 ghost use Rattle.crc.specs.Crc.{crc16_bit, crc16_byte, crc16_run, sent_low, sent_high, crc8_bit, crc8_byte, crc8_of, good_crc};

@@ -6,7 +6,7 @@ use Rattle.answer.specs.declared.Answer.{Answer}
 use Rattle.answer.specs.declared.Answer.TheVariants.{Accepted, DumpForm, LinePage, LineCrc}
 use Rattle.bits.specs.Choose.{if◌then◌else◌}
 use Rattle.crc.specs.Crc.{sent_low, sent_high}
-use Rattle.hex.specs.Hex.{all_digits}
+use Rattle.hexadecimal.specs.Hex.{all_digits}
 use Rattle.dump.specs.Lines.{page_of, line_at, bytes_in, page_in, data_in, crc_in, data_lines}
 use Rattle.dump.specs.declared.Dumped.{Dumped}
 pub mod Laws

@@ -3,7 +3,7 @@
 use Rattle.std.specs.Prelude.{◌&&◌, List, [], ◌∷◌, ◌++◌, ℕ, zero, suc, ◌+◌, ◌-◌, ◌*◌, ◌/◌, ◌%◌, ltb, leb, get_or, take, drop}
 use Rattle.bits.specs.Choose.{if◌then◌else◌}
 use Rattle.crc.specs.Crc.{crc16_run, sent_low, sent_high}
-use Rattle.hex.specs.Hex.{hex_text, bytes_at}
+use Rattle.hexadecimal.specs.Hex.{hex_text, bytes_at}
 pub mod Laws
 pub mod Written
 pub mod Memory

@@ -1,12 +1,14 @@
 // A dump as text: which of its lines are refused and why, and its data bytes, read as the lines are judged.
 // Every function answers any slice and any number.
+#![tactic(auto)]
+
 ghost use Rattle.std.specs.Prelude.{◌≡◌};
 ghost use Rattle.std.proofs.lemmas.List.Edits.{sets};
 ghost use Rattle.dump.specs.Check.{check_text, read_text, read_of, refused};
 ghost use Rattle.dump.specs.Lines.{page_of, page_in, crc_in, data_in, memory_at};
 
 use answer::Answer;
-use hex::Pair;
+use hexadecimal::Pair;
 
 // The characters of a line: 36 bytes as two digits each, and the line feed.
 const LINE: usize = 73;
@@ -74,7 +76,7 @@ fn read_text(text: &[u8], page: u16, memory: &mut [u8], at: usize) -> Answer
     }
     let mut bytes = [0u8; 36];
     for i in 0..36 {
-        let Pair::Byte(byte) = hex::pair_at(text, 2 * i) else {
+        let Pair::Byte(byte) = hexadecimal::pair_at(text, 2 * i) else {
             return Answer::DumpForm;
         };
         bytes[i] = byte;

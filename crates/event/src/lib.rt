@@ -1,5 +1,7 @@
 // What each event does to a tag, once its record and image are found right: a slot, a reset, a short one, a tick. One account of it,
 // for whoever asks first: `tag::event` at every event, `batch::events` once a list.
+#![tactic(auto)]
+
 ghost use Rattle.std.specs.Prelude.{◌≡◌};
 ghost use Rattle.bits.specs.Bits.{digit};
 ghost use Rattle.event.specs.Event.{answer_to, performed, performed_counters, slotted, present, shortened, tick_tag};

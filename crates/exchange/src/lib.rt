@@ -1,5 +1,7 @@
 // The exchange on the line as a machine by value: a tag is chosen, then one memory command is carried on, slot by slot.
 // It never sees the image. What it must know it asks (`ask`), and what is to be done it returns (a `Deed`).
+#![tactic(auto)]
+
 ghost use Rattle.std.specs.Prelude.{◌≡◌, eqb};
 ghost use Rattle.memory.specs.Memory.{slot_of as memory_slot};
 ghost use Rattle.select.specs.Select.{slot_of as selectSlot};

@@ -1,4 +1,6 @@
 // The eight password bytes of a command: gathered whole, and judged once, at their last bit.
+#![tactic(auto)]
+
 ghost use Rattle.std.specs.Prelude.{◌≡◌};
 ghost use Rattle.bus.specs.declared.Guarded.{Guarded};
 ghost use Rattle.bus.specs.Bus.{gathering};

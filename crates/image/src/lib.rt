@@ -1,5 +1,7 @@
 // The lent image of 8,832 bytes: user memory 512, registers 64, calibration 64, log 8,192. Every function answers a slice
 // of any length: what lies past its end reads as 0, and a store there changes nothing.
+#![tactic(auto)]
+
 ghost use Rattle.std.specs.Prelude.{◌≡◌, min, get_or, set};
 ghost use Rattle.image.specs.Answers.{alarmed, may_read, may_control, may_copy};
 ghost use Rattle.image.specs.Fields.{word_at, put_word, flag_at, put_flag};

@@ -1,6 +1,8 @@
 // Finding every tag: the master's side of Search ROM and Conditional Search on a line of several tags. The Search tree is walked by recursion,
 // the 0 side of a branch first, and each number is a pass of its own. What is sent depends on the bits read alone, so noise may be lent
 // that turns some of them.
+#![tactic(auto)]
+
 ghost use Rattle.std.specs.Prelude.{◌&&◌, ◌||◌, ◌≡◌};
 ghost use Rattle.master.specs.Master.{answer_of, is_search, turned, found};
 ghost use Rattle.master.specs.Master.Steps.{lent, next, follows, ends_if, writes, writes_byte, opens, reads, asks, repeats, retraces, lists, walks};

@@ -1,5 +1,7 @@
 // The memory commands of a chosen tag, slot by slot, as a machine by value: what is heard, what is sent, and the ranges of what lies
 // between. It never sees the image. What it must know it asks (`ask`), and what is to be done it returns (a `Deed`).
+#![tactic(auto)]
+
 ghost use Rattle.std.specs.Prelude.{◌≡◌};
 ghost use Rattle.memory.specs.Range.{memory_in_range};
 ghost use Rattle.memory.specs.Memory.{asks, slot_of, on_line, stage_slot};

@@ -1,5 +1,7 @@
 // The tag's record as bytes: 80 of them at fixed offsets, low byte first, which a caller that knows no enum keeps and lends. The table of
 // offsets stands in include/bagtag.h, the definition in specs/Packing.antt. Every function answers a slice of any length.
+#![tactic(auto)]
+
 ghost use Rattle.std.specs.Prelude.{◌≡◌, map, ◌^◌, ◌<◌, length};
 ghost use Rattle.std.proofs.lemmas.List.Edits.{sets};
 ghost use Rattle.bits.specs.Bytes.{Bytes};

@@ -1,5 +1,7 @@
 // Plays events to a new tag and prints the line bits. Standard input: eight ROM bytes and the code, then three bytes an event.
 // Standard output: 0 or 1 and a line feed for each event; for a refusal R, its number in two digits and a line feed, and the end.
+#![tactic(auto)]
+
 ghost use Rattle.std.specs.Prelude.{◌≡◌};
 ghost use Rattle.std.proofs.lemmas.List.Edits.{sets};
 ghost use Rattle.play.specs.Play.{session_of, played_in};

@@ -1,6 +1,8 @@
 // The points of document 01 and of the change requests that are run and compared. Standard input has them: a name, and a session
 // that is played to a new tag. For each, a line says whether all of it came as expected. The published CRC examples come first.
 // Tests are joined by & where nothing has to follow from the first: && is a branch, and each branch makes the check longer.
+#![tactic(auto)]
+
 use image::peek;
 use libc::{STDIN_FILENO, STDOUT_FILENO};
 use session::{NAME, PART};

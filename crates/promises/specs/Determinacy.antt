@@ -18,7 +18,7 @@ use Rattle.record.proofs as tag-record
 use Rattle.event.proofs as event
 use Rattle.tag.proofs as tag
 use Rattle.batch.proofs as batch
-use Rattle.hex.proofs as hex
+use Rattle.hexadecimal.proofs as hex
 use Rattle.dump.proofs as dump
 use Rattle.dock.proofs as dock
 use Rattle.text.proofs as text

@@ -1,5 +1,7 @@
 // A line's records as bytes: side by side, 80 each as `packing` has them, which a caller that knows no struct keeps and lends. Every
 // function answers a slice of any length.
+#![tactic(auto)]
+
 ghost use Rattle.std.specs.Prelude.{◌≡◌, min};
 ghost use Rattle.std.proofs.lemmas.List.Edits.{sets};
 ghost use Rattle.packing.specs.Packing.{packed, Fits, unpacked};

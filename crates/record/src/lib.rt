@@ -1,5 +1,7 @@
 // The tag's record: what goes in with an event and comes back, the ranges that it keeps to, the record of a new tag, and what a call
 // answers.
+#![tactic(auto)]
+
 ghost use Rattle.std.specs.Prelude.{◌≡◌};
 ghost use Rattle.record.specs.Record.{good_number, good_code, tag_in_range, fresh_tag, accepted, refused};
 

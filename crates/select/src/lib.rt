@@ -1,6 +1,8 @@
 // Choosing a tag on the line: the ROM commands, slot by slot, over a registration number whose bit i is bit i on the line.
 // It knows nothing of what a chosen tag does; once the tag is selected the memory commands are another crate's.
 // Every function answers any input, also a place past the last bit.
+#![tactic(auto)]
+
 mod modes;
 
 ghost use Rattle.std.specs.Prelude.{◌≡◌};

@@ -1,5 +1,7 @@
 // Plays events to a new line of several tags and prints the line bits: `play` for a board in a shed. Standard input: the count; for
 // each tag eight ROM bytes and the code; then four bytes an event. Standard output is as that of `play`.
+#![tactic(auto)]
+
 ghost use Rattle.std.specs.Prelude.{◌≡◌, min, length};
 ghost use Rattle.std.proofs.lemmas.List.Edits.{sets};
 ghost use Rattle.shed.specs.Shed.{session_of, played_in};

@@ -1,5 +1,7 @@
 // The tag as seen from the line: a record that goes in and comes back, with a lent image of 8,832 bytes. A new tag, and one
 // event at a time. Whatever comes in, a call answers by document 01's numbers, and a refusal changes nothing.
+#![tactic(auto)]
+
 ghost use Rattle.std.specs.Prelude.{◌≡◌, length};
 ghost use Rattle.tag.specs.Tag.{new_image, new_tag, step};
 

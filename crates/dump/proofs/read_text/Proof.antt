@@ -14,9 +14,9 @@ use Rattle.answer.specs.Answer.{answer_number}
 use Rattle.answer.specs.declared.Answer.{Answer}
 use Rattle.answer.specs.declared.Answer.TheVariants.{Accepted, DumpForm, LinePage, LineCrc}
 use Rattle.bits.specs.Choose.{if◌then◌else◌}
-use Rattle.hex.specs.Hex.{all_digits, pair_at}
-use Rattle.hex.specs.Hex.Text.{read_bad, read_byte, read_more, read_all, read_done}
-use Rattle.hex.specs.declared.Pair.TheVariants.{Byte, Bad}
+use Rattle.hexadecimal.specs.Hex.{all_digits, pair_at}
+use Rattle.hexadecimal.specs.Hex.Text.{read_bad, read_byte, read_more, read_all, read_done}
+use Rattle.hexadecimal.specs.declared.Pair.TheVariants.{Byte, Bad}
 use Rattle.dump.specs.Lines.{bytes_in}
 use Rattle.dump.specs.Check.{formed, crc_right, check_text, read_text}
 use Rattle.dump.specs.Check.Laws.{formed_not_long, formed_not_digits, check_form, text_refused, text_accepted}

@@ -11,7 +11,7 @@ use Rattle.answer.specs.declared.Answer.{Answer}
 use Rattle.answer.specs.declared.Answer.TheVariants.{Accepted, DumpForm, LinePage, LineCrc}
 use Rattle.bits.specs.Choose.{either}
 use Rattle.crc.specs.Crc.{sent_low, sent_high}
-use Rattle.hex.specs.Hex.{all_digits}
+use Rattle.hexadecimal.specs.Hex.{all_digits}
 use Rattle.dump.specs.Lines.{bytes_in, page_in, data_in, crc_in, dumped_at, data_lines, memory_at}
 use Rattle.dump.specs.Lines.Memory.{length_data_lines, memory_dumped}
 use Rattle.dump.specs.Check.{formed, crc_right, check_text, check_line, first_refusal, check_lines, check_of, read_text, refused, read_of}

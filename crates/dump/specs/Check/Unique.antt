@@ -15,8 +15,8 @@ use Rattle.answer.specs.declared.Answer.{Answer}
 use Rattle.answer.specs.declared.Answer.TheVariants.{Accepted, DumpForm, LineCrc, LinePage}
 use Rattle.bits.specs.Choose.{if◌then◌else◌}
 use Rattle.crc.specs.Crc.{sent_low, sent_high}
-use Rattle.hex.specs.Hex.{hex_text, all_digits}
-use Rattle.hex.specs.Hex.Text.{text_bytes, length_bytes, bytes_small}
+use Rattle.hexadecimal.specs.Hex.{hex_text, all_digits}
+use Rattle.hexadecimal.specs.Hex.Text.{text_bytes, length_bytes, bytes_small}
 use Rattle.dump.specs.Lines.{page_of, line_bytes, line_of, bytes_from, lines_from, dump_text, line_at, bytes_in, page_in, data_in, crc_in, data_of, dumped_at}
 use Rattle.dump.specs.Lines.Laws.{dumped_page}
 use Rattle.dump.specs.Lines.Written.{length_from, from_at}

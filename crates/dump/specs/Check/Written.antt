@@ -6,8 +6,8 @@ use Rattle.std.proofs.lemmas.List.{get_or_at}
 use Rattle.answer.specs.Answer.{answer_number}
 use Rattle.answer.specs.declared.Answer.TheVariants.{Accepted}
 use Rattle.crc.specs.Crc.{sent_low, sent_high}
-use Rattle.hex.specs.Hex.{hex_text}
-use Rattle.hex.specs.Hex.Text.{length_text, digits_text}
+use Rattle.hexadecimal.specs.Hex.{hex_text}
+use Rattle.hexadecimal.specs.Hex.Text.{length_text, digits_text}
 use Rattle.dump.specs.Lines.{page_of, line_bytes, line_of, bytes_from, dump_text, data_of, dumped_at}
 use Rattle.dump.specs.Lines.Laws.{page_register, page_log, dumped_page}
 use Rattle.dump.specs.Lines.Written.{length_from, from_at, from_small, length_line_bytes, page_in_line, data_in_line, crc_in_line, crc_first, crc_second, line_bytes_small, length_line, bytes_in_line, page_lt, length_dump, line_at_lem}

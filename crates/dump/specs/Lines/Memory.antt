@@ -7,7 +7,7 @@ use Rattle.std.proofs.Math.ListN.{get_or-append}
 use Rattle.std.proofs.lemmas.List.Edits.{sets}
 use Rattle.bits.specs.Choose.{if◌then◌else◌, either}
 use Rattle.bits.specs.Stores.{sets_join}
-use Rattle.hex.specs.Hex.Text.{length_bytes}
+use Rattle.hexadecimal.specs.Hex.Text.{length_bytes}
 use Rattle.dump.specs.Lines.{line_at, bytes_in, data_in, data_of, dumped_at, data_lines, memory_at}
 
 -- ---- how long

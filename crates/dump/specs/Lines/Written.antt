@@ -8,8 +8,8 @@ use Rattle.std.proofs.Math.ListN.{length}
 use Rattle.std.proofs.Math.Seq.{take_at, take_all, drop-append-add, get_or_at}
 use Rattle.bits.specs.Choose.{either}
 use Rattle.crc.specs.Crc.{sent_low, sent_high}
-use Rattle.hex.specs.Hex.{hex_text}
-use Rattle.hex.specs.Hex.Text.{length_text, bytes_text}
+use Rattle.hexadecimal.specs.Hex.{hex_text}
+use Rattle.hexadecimal.specs.Hex.Text.{length_text, bytes_text}
 use Rattle.dump.specs.Lines.{page_of, page_crc, line_bytes, line_of, bytes_from, lines_from, dump_text, line_at, bytes_in, page_in, data_in, crc_in}
 
 -- ---- bytes of a memory

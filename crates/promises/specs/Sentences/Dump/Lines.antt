@@ -20,10 +20,10 @@ use Rattle.dump.specs.Check.{formed, crc_right, check_text, check_line, first_re
 use Rattle.dump.specs.Check.Laws.{check_lines_lem}
 use Rattle.dump.specs.Check.Unique.{lines_each}
 use Rattle.dump.specs.Lines.{page_of, page_crc, line_at, bytes_in, page_in, data_in, crc_in, data_of, dumped_at}
-use Rattle.hex.specs.Hex.{nibble_of, pair_of, pair_at, is_byte, byte_of, all_digits}
-use Rattle.hex.specs.Hex.Laws.{nibble_decimal, nibble_letter, nibble_below, nibble_between, nibble_above, pair_byte}
-use Rattle.hex.specs.Hex.Text.{bytes_at_lem, length_bytes, bytes_small}
-use Rattle.hex.specs.declared.Pair.{Pair}
+use Rattle.hexadecimal.specs.Hex.{nibble_of, pair_of, pair_at, is_byte, byte_of, all_digits}
+use Rattle.hexadecimal.specs.Hex.Laws.{nibble_decimal, nibble_letter, nibble_below, nibble_between, nibble_above, pair_byte}
+use Rattle.hexadecimal.specs.Hex.Text.{bytes_at_lem, length_bytes, bytes_small}
+use Rattle.hexadecimal.specs.declared.Pair.{Pair}
 use Rattle.promises.specs.Ranges.{same}
 use Rattle.promises.specs.Ranges.Laws.{same_refl, same_eq}
 use Rattle.promises.specs.Sentences.Commands.{crc_of}

@@ -7,7 +7,7 @@ use Rattle.std.proofs.Math.Nat.{add-zero, add-suc}
 use Rattle.std.proofs.Math.IntN.{sub_ℕ}
 use Rattle.bits.specs.Choose.{choice}
 use Rattle.dock.specs.Listing.{listing_of, temperatures_of}
-use Rattle.hex.specs.Hex.{hex_digit, hex_of, hex_text}
+use Rattle.hexadecimal.specs.Hex.{hex_digit, hex_of, hex_text}
 use Rattle.text.specs.Text as text
 use Rattle.text.specs.Text.{twos_complement, head_line, entry_line, listing_text}
 use Rattle.text.specs.Text.Laws.{temperature_digits}

@@ -8,8 +8,8 @@ use Rattle.std.proofs.lemmas.Bool.{lt-leb}
 use Rattle.std.proofs.Math.ListN.{get_or-eq_default}
 use Rattle.bits.specs.Choose.{if◌then◌else◌}
 use Rattle.bits.specs.Each.{each_at}
-use Rattle.hex.specs.Hex.{hex_digit, hex_of, nibble_of, pair_of, pair_at, is_byte, byte_of}
-use Rattle.hex.specs.declared.Pair.TheVariants.{Byte, Bad}
+use Rattle.hexadecimal.specs.Hex.{hex_digit, hex_of, nibble_of, pair_of, pair_at, is_byte, byte_of}
+use Rattle.hexadecimal.specs.declared.Pair.TheVariants.{Byte, Bad}
 
 -- ---- one digit
 

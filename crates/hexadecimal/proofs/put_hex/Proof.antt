@@ -1,4 +1,4 @@
--- `hex::put_hex` meets its contract. The loop's invariant: with the digits that are left still to store, the list ends as it does
+-- `hexadecimal::put_hex` meets its contract. The loop's invariant: with the digits that are left still to store, the list ends as it does
 -- with all of them, and its length stays. The measure is the number of digits left. Assumes nothing.
 use mathlib.Core.Path.{◌≡◌, refl, sym, ap, ◌∙◌}
 use mathlib.Core.Logic.{⊎_elim}
@@ -6,11 +6,11 @@ use Prim.Native.Nat.{ℕ, ◌+◌, ◌-◌}
 use native.Mathlib.Omega.{arith}
 use lib.ListN.{length, set, length-set}
 use lib.Seq.{sets, set_out}
-use Rattle.hex.specs.Hex.{hex_digit, hex_of}
-use Rattle.hex.specs.Hex.Laws.{digit_listed}
-use Rattle.hex.specs.Hex.Stores.{put_last, put_none, sets_past}
-use Rattle.hex.proofs.put_hex.Statement.{statement}
-use Rattle.hex.proofs.put_hex.Tie as tie
+use Rattle.hexadecimal.specs.Hex.{hex_digit, hex_of}
+use Rattle.hexadecimal.specs.Hex.Laws.{digit_listed}
+use Rattle.hexadecimal.specs.Hex.Stores.{put_last, put_none, sets_past}
+use Rattle.hexadecimal.proofs.put_hex.Statement.{statement}
+use Rattle.hexadecimal.proofs.put_hex.Tie as tie
 
 abbrev invariant-loop : tie.invariant-loop
 invariant-loop out₀ at value digits all room rest₀ left₀ out rest left =

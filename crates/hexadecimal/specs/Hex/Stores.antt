@@ -5,8 +5,8 @@ use Rattle.std.proofs.lemmas.List.Edits.{sets, sets-eq}
 use Rattle.std.proofs.lemmas.List.{set_comm}
 use Rattle.bits.specs.Stores.{sets_join}
 pub use Rattle.bits.specs.Stores.{sets_past}
-use Rattle.hex.specs.Hex.{hex_digit, hex_of}
-use Rattle.hex.specs.Hex.Laws.{length_hex}
+use Rattle.hexadecimal.specs.Hex.{hex_digit, hex_of}
+use Rattle.hexadecimal.specs.Hex.Laws.{length_hex}
 
 -- a store past a run of stores may as well come before it
 pub sets_set : (l : List ℕ) (i : ℕ) (vs : List ℕ) (j a : ℕ) → i + length vs ≤ j → set (sets l i vs) j a ≡ sets (set l j a) i vs

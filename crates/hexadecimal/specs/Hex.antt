@@ -2,8 +2,8 @@
 -- case" ("The dump and its listing"). A text is the list of its characters' codes. Assumes nothing.
 use Rattle.std.specs.Prelude.{Bool, true, false, ◌&&◌, List, [], ◌∷◌, ◌++◌, ℕ, zero, suc, ◌+◌, ◌-◌, ◌*◌, ◌/◌, ◌%◌, ltb, leb, get_or}
 use Rattle.bits.specs.Choose.{if◌then◌else◌}
-use Rattle.hex.specs.declared.Pair.{Pair}
-use Rattle.hex.specs.declared.Pair.TheVariants.{Byte, Bad}
+use Rattle.hexadecimal.specs.declared.Pair.{Pair}
+use Rattle.hexadecimal.specs.declared.Pair.TheVariants.{Byte, Bad}
 pub mod Laws
 pub mod Text
 pub mod Stores

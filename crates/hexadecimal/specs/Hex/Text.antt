@@ -8,9 +8,9 @@ use native.Mathlib.Omega.{arith}
 use Rattle.std.proofs.Math.Numerals.{add-two}
 use Rattle.std.proofs.Math.ListN.{length}
 use Rattle.std.proofs.Math.Seq.{drop-cons}
-use Rattle.hex.specs.Hex.{hex_digit, hex_of, hex_text, nibble_of, pair_of, pair_at, is_byte, byte_of, all_digits, bytes_at}
-use Rattle.hex.specs.Hex.Laws.{digit_mod, digit_nibble, pair_byte, pair_hex, pair_small, pair_digits}
-use Rattle.hex.specs.declared.Pair.TheVariants.{Byte, Bad}
+use Rattle.hexadecimal.specs.Hex.{hex_digit, hex_of, hex_text, nibble_of, pair_of, pair_at, is_byte, byte_of, all_digits, bytes_at}
+use Rattle.hexadecimal.specs.Hex.Laws.{digit_mod, digit_nibble, pair_byte, pair_hex, pair_small, pair_digits}
+use Rattle.hexadecimal.specs.declared.Pair.TheVariants.{Byte, Bad}
 
 -- ---- bytes as text
 

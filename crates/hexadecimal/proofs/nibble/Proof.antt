@@ -1,10 +1,10 @@
--- `hex::nibble` meets its contract, by where the character lies: in 0-9, in A-F, below, between or above. Assumes nothing.
+-- `hexadecimal::nibble` meets its contract, by where the character lies: in 0-9, in A-F, below, between or above. Assumes nothing.
 use mathlib.Core.Path.{sym}
 use borrow.Author.Rules.{rules}
 use native.Mathlib.Omega.{arith}
-use Rattle.hex.specs.Hex.Laws.{nibble_decimal, nibble_letter, nibble_below, nibble_between, nibble_above}
-use Rattle.hex.proofs.nibble.Statement.{statement}
-use Rattle.hex.proofs.nibble.Tie as tie
+use Rattle.hexadecimal.specs.Hex.Laws.{nibble_decimal, nibble_letter, nibble_below, nibble_between, nibble_above}
+use Rattle.hexadecimal.proofs.nibble.Statement.{statement}
+use Rattle.hexadecimal.proofs.nibble.Tie as tie
 
 sub-result : tie.Need-overflow-sub-result
 sub-result c = search rules

@@ -1,12 +1,12 @@
--- `hex::pair_at` meets its contract: past the end there is no digit, and two characters are a byte if both are digits.
+-- `hexadecimal::pair_at` meets its contract: past the end there is no digit, and two characters are a byte if both are digits.
 -- Assumes nothing.
 use mathlib.Core.Path.{sym}
 use borrow.Author.Rules.{rules}
 use native.Mathlib.Omega.{arith}
-use Rattle.hex.specs.Hex.{pair_at}
-use Rattle.hex.specs.Hex.Laws.{pair_past, pair_byte, pair_bad_high, pair_bad_low}
-use Rattle.hex.proofs.pair_at.Statement.{statement}
-use Rattle.hex.proofs.pair_at.Tie as tie
+use Rattle.hexadecimal.specs.Hex.{pair_at}
+use Rattle.hexadecimal.specs.Hex.Laws.{pair_past, pair_byte, pair_bad_high, pair_bad_low}
+use Rattle.hexadecimal.proofs.pair_at.Statement.{statement}
+use Rattle.hexadecimal.proofs.pair_at.Tie as tie
 
 returns : tie.Need-returns
 returns c = let a = c.before.before.args in sym (pair_past a.text.now a.at (omega arith))

@@ -1,8 +1,10 @@
 // Numbers as upper-case hexadecimal text, both ways: two digits read as a byte, and a number written high digit first.
 // Every function answers any input.
+#![tactic(auto)]
+
 ghost use Rattle.std.specs.Prelude.{◌≡◌};
 ghost use Rattle.std.proofs.lemmas.List.Edits.{sets};
-ghost use Rattle.hex.specs.Hex.{hex_of, nibble_of, pair_at};
+ghost use Rattle.hexadecimal.specs.Hex.{hex_of, nibble_of, pair_at};
 
 // What two characters say.
 #[derive(Drop)]
