@@ -27,7 +27,7 @@ module _ (w : ℕ) {mask : ℕ} (fits : mask < 2 ^ w) where
   pub bits_lt : {r : ℕ} (bs : List Bool) → r < 2 ^ w → crc_bits mask r bs < 2 ^ w
   unfolding crc_bits
   bits_lt [] h = h
-  bits_lt (b ∷ bs) h = bits_lt bs (bit_lt b h)
+  bits_lt {r = r} (b ∷ bs) h = bits_lt {r = crc_bit mask r b} bs (bit_lt b h)
 
   pub byte_lt : {r : ℕ} (byte : ℕ) → r < 2 ^ w → crc_byte mask r byte < 2 ^ w
   unfolding crc_byte
@@ -36,7 +36,7 @@ module _ (w : ℕ) {mask : ℕ} (fits : mask < 2 ^ w) where
   pub run_lt : {r : ℕ} (bytes : List ℕ) → r < 2 ^ w → crc_run mask r bytes < 2 ^ w
   unfolding crc_run
   run_lt [] h = h
-  run_lt (byte ∷ bytes) h = run_lt bytes (byte_lt byte h)
+  run_lt {r = r} (byte ∷ bytes) h = run_lt {r = crc_byte mask r byte} bytes (byte_lt byte h)
 
 -- ---- a joined input: the run of the second part from the register of the first
 
