@@ -8,4 +8,4 @@ use mathlib.Core.Path.{refl, sym}
 
 pub bit_spec : {M : Type 1} → statement M
 unfolding bit_of
-bit_spec = tie.close (tie.spec (search rules) (λ c. refl) (λ c. sym (bit_past 64 c.before.ranges.n.fits c.if1.false)))
+bit_spec = tie.close (tie.spec (search rules) (λ c. refl) (λ c. sym (bit_past 64 c.before.ranges.n.fits c.if-at-lt64.false)))

@@ -7,4 +7,4 @@ use Rattle.bits.proofs.shift_in64.Tie as tie
 
 pub shift_in64_spec : {M : Type 1} → statement M
 unfolding shift_in
-shift_in64_spec = tie.close (tie.spec (search rules) (λ c. rw c.if1.true) (λ c. rw c.if1.false (omega arith)))
+shift_in64_spec = tie.close (tie.spec (search rules) (λ c. rw c.if-bit.true) (λ c. rw c.if-bit.false (omega arith)))
