@@ -8,4 +8,4 @@ use Rattle.calendar.proofs.flip.Tie as tie
 pub flip_spec : {M : Type 1} → statement M
 unfolding flipped
 flip_spec =
-    tie.close (tie.spec (search rules) (λ c. simp (lt-ltb _ _ c.if1.true)) (λ c. simp (le-ltb _ _ c.if1.false)))
+    tie.close (tie.spec (search rules) (λ c. simp (lt-ltb _ _ c.if-byte-lt128.true)) (λ c. simp (le-ltb _ _ c.if-byte-lt128.false)))

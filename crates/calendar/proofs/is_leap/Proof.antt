@@ -7,5 +7,5 @@ use Rattle.calendar.proofs.is_leap.Tie as tie
 pub is_leap_spec : {M : Type 1} → statement M
 unfolding is_leap decimal
 is_leap_spec =
-    tie.close (tie.spec (search rules) (search rules) (search rules) (λ c. rw (← c.before.valid.ensures, c.if1.true))
-    (λ c. rw (← c.before.valid.ensures, c.if1.false)))
+    tie.close (tie.spec (search rules) (search rules) (search rules) (λ c. rw (← c.before.valid.ensures, c.if-valid.true))
+    (λ c. rw (← c.before.valid.ensures, c.if-valid.false)))

@@ -8,40 +8,40 @@ use Rattle.calendar.proofs.next_day.Statement.{statement}
 use Rattle.calendar.proofs.next_day.Tie as tie
 
 -- the date's step, to the last date of its month
-date-on : (c : tie.After-step) → let clock = c.before.before.before.args.clock in c.step.result ≡ step_field 0x01 (days_in (clock.month % 32) clock.year) clock.date
-date-on c = let clock = c.before.before.before.args.clock in c.step.ensures ∙ ap (λ (n : ℕ). step_field 0x01 n clock.date) c.before.days-in.ensures
+date-on : (c : tie.After-step-date) → let clock = c.before.before.before.args.clock in c.step-date.result ≡ step_field 0x01 (days_in (clock.month % 32) clock.year) clock.date
+date-on c = let clock = c.before.before.before.args.clock in c.step-date.ensures ∙ ap (λ (n : ℕ). step_field 0x01 n clock.date) c.before.days-in.ensures
 
-returns : tie.Need-returns
+returns : tie.Need-returns-then-not-date
 unfolding next_day carried
 returns c =
     let d = c.before.before in
-    rw (← date-on d, not-true d.step.result.carry c.if1.true)
+    rw (← date-on d, not-true d.step-date.result.carry c.if-not-date.true)
 
-returns-2 : tie.Need-returns-2
+returns-2 : tie.Need-returns-then-not-month
 unfolding next_day carried
 returns-2 c =
     let m = c.before.before in
     let d = m.before.before.before in
     rw
-    (← date-on d, not-false d.step.result.carry m.before.if1.false, ← m.step-month.ensures, not-true m.step-month.result.carry c.if2.true)
+    (← date-on d, not-false d.step-date.result.carry m.before.if-not-date.false, ← m.step-month.ensures, not-true m.step-month.result.carry c.if-not-month.true)
 
-returns-3 : tie.Need-returns-3
+returns-3 : tie.Need-returns-then-year
 unfolding next_day carried
 returns-3 c =
     let y = c.before.before in
     let m = y.before.before.before in
     let d = m.before.before.before in
     rw
-    (← date-on d, not-false d.step.result.carry m.before.if1.false, ← m.step-month.ensures, not-false m.step-month.result.carry y.before.if2.false, ← y.step2.ensures, c.before.if3.true, ← c.flip.ensures)
+    (← date-on d, not-false d.step-date.result.carry m.before.if-not-date.false, ← m.step-month.ensures, not-false m.step-month.result.carry y.before.if-not-month.false, ← y.step-year.ensures, c.before.if-year.true, ← c.flip.ensures)
 
-returns-4 : tie.Need-returns-4
+returns-4 : tie.Need-returns-else-year
 unfolding next_day carried
 returns-4 c =
     let y = c.before in
     let m = y.before.before.before in
     let d = m.before.before.before in
     rw
-    (← date-on d, not-false d.step.result.carry m.before.if1.false, ← m.step-month.ensures, not-false m.step-month.result.carry y.before.if2.false, ← y.step2.ensures, c.if3.false)
+    (← date-on d, not-false d.step-date.result.carry m.before.if-not-date.false, ← m.step-month.ensures, not-false m.step-month.result.carry y.before.if-not-month.false, ← y.step-year.ensures, c.if-year.false)
 
 pub next_day_spec : {M : Type 1} → statement M
 next_day_spec = tie.close (search (rules, tie.spec, returns, returns-2, returns-3, returns-4))

@@ -12,12 +12,12 @@ use Rattle.calendar.proofs.step.Statement.{statement}
 use Rattle.calendar.proofs.step.Tie as tie
 
 -- the test that a field returns to its lowest
-test : (c : tie.Joined1) → c.if1.if2 ≡ (eqb c.before.args.byte c.before.args.last || not (is_valid c.before.args.lowest c.before.args.last c.before.args.byte))
-test c = ⊎_elim (λ w. simp (w.1, eq-eqb _ _ w.0.taken)) (λ w. simp (ne_eqb _ _ w.0.left, ← w.1.ensures) w.2) c.if1.branch
+test : (c : tie.Joined-byte-last) → c.if-byte-last.if-not-valid ≡ (eqb c.before.args.byte c.before.args.last || not (is_valid c.before.args.lowest c.before.args.last c.before.args.byte))
+test c = ⊎_elim (λ w. simp (w.1, eq-eqb _ _ w.0.taken)) (λ w. simp (ne_eqb _ _ w.0.left, ← w.1.ensures) w.2) c.if-byte-last.branch
 
 -- where it does not, the field is valid
-between : (c : tie.Else2) → Between c.before.before.args.lowest c.before.before.args.last c.before.before.args.byte
-between c = goes_on_between _ _ _ (sym (test c.before) ∙ c.if2.false)
+between : (c : tie.Else-not-valid) → Between c.before.before.args.lowest c.before.before.args.last c.before.before.args.byte
+between c = goes_on_between _ _ _ (sym (test c.before) ∙ c.if-not-valid.false)
 
 add-gone-on : tie.Need-overflow-add-gone-on
 add-gone-on c = omega (arith, between c.before)
@@ -25,17 +25,17 @@ add-gone-on c = omega (arith, between c.before)
 add-gone-on-2 : tie.Need-overflow-add-gone-on-2
 add-gone-on-2 c = omega (arith, between c.before)
 
-returns : tie.Need-returns
+returns : tie.Need-returns-then-not-valid
 unfolding step_field step_along
-returns c = rw (← test c.before.before, c.before.if2.true) c.returned.ensures
+returns c = rw (← test c.before.before, c.before.if-not-valid.true) c.returned.ensures
 
-returns-2 : tie.Need-returns-2
+returns-2 : tie.Need-returns-then-byte-eq9
 unfolding step_field step_along plus_one
-returns-2 c = rw (← test c.before.before.before, c.before.before.if2.false, eq-eqb _ _ c.before.if3.true) c.gone-on.ensures
+returns-2 c = rw (← test c.before.before.before, c.before.before.if-not-valid.false, eq-eqb _ _ c.before.if-byte-eq9.true) c.gone-on.ensures
 
-returns-3 : tie.Need-returns-3
+returns-3 : tie.Need-returns-else-byte-eq9
 unfolding step_field step_along plus_one
-returns-3 c = rw (← test c.before.before.before, c.before.before.if2.false, ne_eqb _ _ c.before.if3.false) c.gone-on2.ensures
+returns-3 c = rw (← test c.before.before.before, c.before.before.if-not-valid.false, ne_eqb _ _ c.before.if-byte-eq9.false) c.gone-on2.ensures
 
 pub step_spec : {M : Type 1} → statement M
 step_spec = tie.close (search (rules, tie.spec, add-gone-on, add-gone-on-2, returns, returns-2, returns-3))

@@ -15,21 +15,21 @@ small : (byte : ℕ) → (step_field 0x01 0x12 (byte % 32)).byte ≤ 0x12
 small byte = step_le (byte % 32) (lit≤ tt) (lit≤ tt)
 
 add-next : tie.Need-overflow-add-next
-add-next c = rw c.before.before.step.ensures (omega (arith, small c.before.before.before.args.byte))
+add-next c = rw c.before.before.step-month.ensures (omega (arith, small c.before.before.before.args.byte))
 
-returns : tie.Need-returns
+returns : tie.Need-returns-then-byte-lt128
 unfolding step_month
 returns c =
     let byte = c.before.before.args.byte in
     let cent : byte / 128 ≡ 0 = omega arith in
-    rw (c.before.step.ensures, cent, add-zero)
+    rw (c.before.step-month.ensures, cent, add-zero)
 
-returns-2 : tie.Need-returns-2
+returns-2 : tie.Need-returns-else-byte-lt128
 unfolding step_month
 returns-2 c =
     let byte = c.before.before.before.args.byte in
     let cent : byte / 128 ≡ 1 = omega arith in
-    rw (c.before.before.step.ensures, cent)
+    rw (c.before.before.step-month.ensures, cent)
 
 pub step_month_spec : {M : Type 1} → statement M
 step_month_spec = tie.close (search (rules, tie.spec, add-next, returns, returns-2))

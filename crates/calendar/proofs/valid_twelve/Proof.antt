@@ -3,11 +3,11 @@ use borrow.Author.Rules.{rules}
 use Rattle.calendar.proofs.valid_twelve.Statement.{statement}
 use Rattle.calendar.proofs.valid_twelve.Tie as tie
 
-returns : tie.Need-returns
-returns c = rw (← c.before.valid.ensures, c.if1.true)
+returns : tie.Need-returns-then-valid
+returns c = rw (← c.before.valid.ensures, c.if-valid.true)
 
-returns-2 : tie.Need-returns-2
-returns-2 c = rw (← c.before.before.valid.ensures, c.before.if1.false) c.valid2.ensures
+returns-2 : tie.Need-returns-else-valid
+returns-2 c = rw (← c.before.before.valid.ensures, c.before.if-valid.false) c.valid-else-valid.ensures
 
 pub valid_twelve_spec : {M : Type 1} → statement M
 valid_twelve_spec = tie.close (search (rules, tie.spec, returns, returns-2))

@@ -16,13 +16,13 @@ unfolding bit_of
 own-lowest true = refl
 own-lowest false = refl
 
-returns : tie.Need-returns
+returns : tie.Need-returns-then-crc-bit-eq1
 unfolding mask16 taps
-returns c = rw (← own-lowest c.before.args.bit, bit_parity, c.if1.true)
+returns c = rw (← own-lowest c.before.args.bit, bit_parity, c.if-crc-bit-eq1.true)
 
-returns-2 : tie.Need-returns-2
+returns-2 : tie.Need-returns-else-crc-bit-eq1
 unfolding mask16 taps
-returns-2 c = rw (← own-lowest c.before.args.bit, bit_parity, ne_eqb _ _ c.if1.false)
+returns-2 c = rw (← own-lowest c.before.args.bit, bit_parity, ne_eqb _ _ c.if-crc-bit-eq1.false)
 
 pub crc16_bit_spec : {M : Type 1} → statement M
 crc16_bit_spec = tie.close (tie.spec (search rules) returns returns-2)

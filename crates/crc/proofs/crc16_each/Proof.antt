@@ -16,7 +16,7 @@ invariant-loop crc bytes r₀ i₀ i-end r i =
 abbrev decreases-loop : tie.decreases-loop
 decreases-loop crc bytes r₀ i₀ i-end r i = i-end - i
 
-loop-holds : tie.Need-loop-init invariant-loop decreases-loop
+loop-holds : tie.Need-loop-i-init invariant-loop decreases-loop
 loop-holds c = (omega arith, refl, refl)
 
 shared-slice-read-crc16-byte : tie.Need-shared-slice-read-crc16-byte invariant-loop decreases-loop
@@ -28,19 +28,19 @@ crc16-byte-requires c κs = tt
 add-i : tie.Need-overflow-add-i invariant-loop decreases-loop
 add-i c = omega arith
 
-loop-less : tie.Need-loop-smaller invariant-loop decreases-loop
+loop-less : tie.Need-loop-i-smaller invariant-loop decreases-loop
 loop-less c = omega arith
 
-loop-again : tie.Need-loop-preserved invariant-loop decreases-loop
+loop-again : tie.Need-loop-i-preserved invariant-loop decreases-loop
 loop-again c =
-    let turn = c.before.before.before.loop in
+    let turn = c.before.before.before.loop-i in
     let bytes = c.before.before.before.before.before.args.bytes.now in
     let inside : turn.i < length bytes = omega arith in
     (omega arith, refl, rw (c.crc16-byte.ensures, ← run_more _ turn.r bytes turn.i inside) turn.invariant.2)
 
 returns : tie.Need-returns invariant-loop decreases-loop
 returns c =
-    let end = c.before.loop in
+    let end = c.before.loop-i in
     let bytes = c.before.before.before.args.bytes.now in
     let past : length bytes ≤ end.i = omega arith in
     sym (run_none _ end.r bytes end.i past) ∙ end.invariant.2

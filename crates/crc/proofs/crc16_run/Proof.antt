@@ -16,13 +16,13 @@ invariant-loop crc bytes fours r₀ i₀ r i = (i ≤ fours) × (fours ≡ lengt
 abbrev decreases-loop : tie.decreases-loop
 decreases-loop crc bytes fours r₀ i₀ r i = fours - i
 
-loop-holds : tie.Need-loop-init invariant-loop decreases-loop
+loop-holds : tie.Need-loop-i-init invariant-loop decreases-loop
 loop-holds c = (omega arith, refl, refl)
 
-loop-again : tie.Need-loop-preserved invariant-loop decreases-loop
+loop-again : tie.Need-loop-i-preserved invariant-loop decreases-loop
 loop-again c =
     let c6 = c.before.before.before.before.before.before in
-    let turn = c6.loop in
+    let turn = c6.loop-i in
     let bytes = c6.before.before.args.bytes.now in
     let inside : 4 * turn.i + 4 ≤ length bytes = omega arith in
     let next : 4 * (turn.i + 1) ≡ 4 * turn.i + 4 = omega arith in
@@ -31,7 +31,7 @@ loop-again c =
 returns : tie.Need-returns invariant-loop decreases-loop
 returns c =
     let c3 = c.before.before.before in
-    let end = c3.loop in
+    let end = c3.loop-i in
     let bytes = c3.before.before.args.bytes.now in
     let all : end.i ≡ length bytes / 4 = omega arith in
     let left = drop (4 * (length bytes / 4)) bytes in

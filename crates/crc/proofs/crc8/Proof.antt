@@ -15,18 +15,18 @@ invariant-loop number r₀ rest₀ i₀ r rest i = (i ≤ 7) × (crc_run mask8 r
 abbrev decreases-loop : tie.decreases-loop
 decreases-loop number r₀ rest₀ i₀ r rest i = 7 - i
 
-loop-holds : tie.Need-loop-init invariant-loop decreases-loop
+loop-holds : tie.Need-loop-i-init invariant-loop decreases-loop
 loop-holds c = (omega arith, sym (crc8_bytes _))
 
-loop-again : tie.Need-loop-preserved invariant-loop decreases-loop
+loop-again : tie.Need-loop-i-preserved invariant-loop decreases-loop
 loop-again c =
-    let turn = c.before.before.loop in
+    let turn = c.before.before.loop-i in
     let less : 7 - (turn.i + 1) ≡ 7 - turn.i - 1 = omega arith in
     (omega arith, rw (c.crc8-byte.ensures, less, ← number_more _ turn.r turn.rest (7 - turn.i) (omega arith)) turn.invariant.1)
 
 returns : tie.Need-returns invariant-loop decreases-loop
 returns c =
-    let end = c.before.loop in
+    let end = c.before.loop-i in
     sym (number_none _ end.r end.rest (7 - end.i) (omega arith)) ∙ end.invariant.1
 
 pub crc8_spec : {M : Type 1} → statement M

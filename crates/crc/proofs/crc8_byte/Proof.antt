@@ -14,18 +14,18 @@ invariant-loop crc byte r₀ rest₀ i₀ r rest i = ByteSoFar mask8 crc byte r 
 abbrev decreases-loop : tie.decreases-loop
 decreases-loop crc byte r₀ rest₀ i₀ r rest i = 8 - i
 
-loop-holds : tie.Need-loop-init invariant-loop decreases-loop
+loop-holds : tie.Need-loop-i-init invariant-loop decreases-loop
 loop-holds c = byte_begins _ _ _
 
-loop-again : tie.Need-loop-preserved invariant-loop decreases-loop
+loop-again : tie.Need-loop-i-preserved invariant-loop decreases-loop
 loop-again c =
-    let turn = c.before.before.loop in
-    rw c.crc8-low.ensures (byte_turns _ _ _ turn.r turn.rest turn.i c.before.loop-test.true turn.invariant)
+    let turn = c.before.before.loop-i in
+    rw c.crc8-low.ensures (byte_turns _ _ _ turn.r turn.rest turn.i c.before.loop-i-test.true turn.invariant)
 
 returns : tie.Need-returns invariant-loop decreases-loop
 returns c =
-    let end = c.before.loop in
-    byte_ends _ _ _ end.r end.rest end.i c.loop-test.false end.invariant
+    let end = c.before.loop-i in
+    byte_ends _ _ _ end.r end.rest end.i c.loop-i-test.false end.invariant
 
 pub crc8_byte_spec : {M : Type 1} → statement M
 crc8_byte_spec =

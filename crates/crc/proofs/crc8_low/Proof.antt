@@ -6,13 +6,13 @@ use Rattle.crc.specs.Crc.Laws.{bit_parity}
 use Rattle.crc.proofs.crc8_low.Statement.{statement}
 use Rattle.crc.proofs.crc8_low.Tie as tie
 
-returns : tie.Need-returns
+returns : tie.Need-returns-then-crc-number-eq1
 unfolding mask8 taps
-returns c = rw (bit_parity, c.if1.true)
+returns c = rw (bit_parity, c.if-crc-number-eq1.true)
 
-returns-2 : tie.Need-returns-2
+returns-2 : tie.Need-returns-else-crc-number-eq1
 unfolding mask8 taps
-returns-2 c = rw (bit_parity, ne_eqb _ _ c.if1.false)
+returns-2 c = rw (bit_parity, ne_eqb _ _ c.if-crc-number-eq1.false)
 
 pub crc8_low_spec : {M : Type 1} → statement M
 crc8_low_spec = tie.close (tie.spec returns returns-2)

@@ -5,21 +5,21 @@ use Rattle.image.specs.Answers.{alarmed}
 use Rattle.image.proofs.alarm.Statement.{statement}
 use Rattle.image.proofs.alarm.Tie as tie
 
-returns-2 : tie.Need-returns-2
+returns-2 : tie.Need-returns-then-flag-2
 unfolding alarmed
 returns-2 c =
     simp (
-      sym c.before.before.before.flag.ensures ∙ c.before.before.if1.false,
-      sym c.before.flag2.ensures ∙ c.if2.true,
+      sym c.before.before.before.flag.ensures ∙ c.before.before.if-flag.false,
+      sym c.before.flag-2.ensures ∙ c.if-flag-2.true,
     )
 
-returns-3 : tie.Need-returns-3
+returns-3 : tie.Need-returns
 unfolding alarmed
 returns-3 c =
     simp (
-      sym c.before.before.before.before.flag.ensures ∙ c.before.before.before.if1.false,
-      sym c.before.before.flag2.ensures ∙ c.before.if2.false,
-      c.flag3.ensures,
+      sym c.before.before.before.before.flag.ensures ∙ c.before.before.before.if-flag.false,
+      sym c.before.before.flag-2.ensures ∙ c.before.if-flag-2.false,
+      c.flag-3.ensures,
     )
 
 pub alarm_spec : {M : Type 1} → statement M
@@ -27,5 +27,5 @@ unfolding alarmed
 alarm_spec =
     tie.close
     (tie.spec (search rules)
-    (λ c. simp (sym c.before.flag.ensures ∙ c.if1.true))
+    (λ c. simp (sym c.before.flag.ensures ∙ c.if-flag.true))
     (search rules) returns-2 (search rules) returns-3)

@@ -11,5 +11,5 @@ unfolding may_control checked
 may_control_spec =
     tie.close
     (tie.spec (search rules) (search rules)
-    (λ c. rw (eq-eqb _ _ (sym c.before.before.peek.ensures ∙ c.before.if1.true), c.word.ensures))
-    (λ c. rw (ne_eqb _ _ (λ e. c.if1.false (c.before.peek.ensures ∙ e)))))
+    (λ c. rw (eq-eqb _ _ (sym c.before.before.peek.ensures ∙ c.before.if-peek-eq170.true), c.word.ensures))
+    (λ c. rw (ne_eqb _ _ (λ e. c.if-peek-eq170.false (c.before.peek.ensures ∙ e)))))

@@ -6,22 +6,22 @@ use Rattle.image.specs.Answers.{may_copy}
 use Rattle.image.proofs.may_copy.Statement.{statement}
 use Rattle.image.proofs.may_copy.Tie as tie
 
-returns-2 : tie.Need-returns-2
+returns-2 : tie.Need-returns-then-flag
 unfolding may_copy
 returns-2 c =
     simp (
-      le-ltb _ _ c.before.before.before.if1.false,
-      lt-ltb _ _ c.before.before.if2.true,
-      sym c.before.flag.ensures ∙ c.if3.true,
+      le-ltb _ _ c.before.before.before.if-address-lt512.false,
+      lt-ltb _ _ c.before.before.if-address-lt640.true,
+      sym c.before.flag.ensures ∙ c.if-flag.true,
     )
 
-returns-3 : tie.Need-returns-3
+returns-3 : tie.Need-returns-then-address-lt640
 unfolding may_copy
 returns-3 c =
     simp (
-      le-ltb _ _ c.before.before.before.before.if1.false,
-      lt-ltb _ _ c.before.before.before.if2.true,
-      sym c.before.before.flag.ensures ∙ c.before.if3.false,
+      le-ltb _ _ c.before.before.before.before.if-address-lt512.false,
+      lt-ltb _ _ c.before.before.before.if-address-lt640.true,
+      sym c.before.before.flag.ensures ∙ c.before.if-flag.false,
       c.may-control2.ensures,
     )
 
@@ -30,6 +30,6 @@ unfolding may_copy
 may_copy_spec =
     tie.close
     (tie.spec (search rules)
-    (λ c. simp (lt-ltb _ _ c.before.if1.true, c.may-control.ensures))
+    (λ c. simp (lt-ltb _ _ c.before.if-address-lt512.true, c.may-control.ensures))
     (search rules) returns-2 (search rules) returns-3
-    (λ c. simp (le-ltb _ _ c.before.if1.false, le-ltb _ _ c.if2.false)))
+    (λ c. simp (le-ltb _ _ c.before.if-address-lt512.false, le-ltb _ _ c.if-address-lt640.false)))

@@ -10,6 +10,6 @@ unfolding may_read
 may_read_spec =
     tie.close
     (tie.spec (search rules)
-    (λ c. rw (sym c.before.may-control.ensures ∙ c.if1.true))
+    (λ c. rw (sym c.before.may-control.ensures ∙ c.if-may_control.true))
     (search rules)
-    (λ c. rw (sym c.before.before.may-control.ensures ∙ c.before.if1.false, c.word.ensures)))
+    (λ c. rw (sym c.before.before.may-control.ensures ∙ c.before.if-may_control.false, c.word.ensures)))

@@ -10,4 +10,4 @@ peek_spec =
     tie.close
     (tie.spec (search rules)
     (λ c. refl)
-    (λ c. sym (get_or-eq_default c.before.args.image.now 0 c.if1.false)))
+    (λ c. sym (get_or-eq_default c.before.args.image.now 0 c.if-at-image.false)))

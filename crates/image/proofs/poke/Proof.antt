@@ -6,4 +6,4 @@ use Rattle.image.proofs.poke.Statement.{statement}
 use Rattle.image.proofs.poke.Tie as tie
 
 pub poke_spec : {M : Type 1} → statement M
-poke_spec = tie.close (tie.spec (search rules) (search rules) (search rules) (λ c. sym (set_out _ _ _ c.if1.false)))
+poke_spec = tie.close (tie.spec (search rules) (search rules) (search rules) (λ c. sym (set_out _ _ _ c.if-at-image.false)))

@@ -15,7 +15,7 @@ use Rattle.image.proofs.put_flag.Tie as tie
 one_bit : (i : ℕ) → i < 8 → 1 * 2 ^ i % 256 ≡ 2 ^ i
 one_bit i h = rw (one-mul (2 ^ i)) (mod-eq_of_lt (pow-lt h))
 
-returns : tie.Need-returns
+returns : tie.Need-returns-then-b
 unfolding put_flag with_bit
 returns c =
     let below = c.before.before.before.before.before.before.before in
@@ -23,23 +23,23 @@ returns c =
     c.before.before.poke.ensures
     ∙ rw (
       c.before.before.before.before.before.peek.ensures,
-      lt-ltb _ _ below.if1.true,
-      one_bit a.bit below.if1.true,
-      c.before.before.before.before.if2.true,
+      lt-ltb _ _ below.if-bit-lt8.true,
+      one_bit a.bit below.if-bit-lt8.true,
+      c.before.before.before.before.if-b.true,
       one-mul (2 ^ a.bit),
     )
 
-returns-2 : tie.Need-returns-2
+returns-2 : tie.Need-returns-else-b
 unfolding put_flag with_bit
 returns-2 c =
     let below = c.before.before.before.before.before.before.before in
     let a = below.before.before.args in
-    c.before.before.poke2.ensures
+    c.before.before.poke-else-b.ensures
     ∙ rw (
       c.before.before.before.before.before.peek.ensures,
-      lt-ltb _ _ below.if1.true,
-      one_bit a.bit below.if1.true,
-      c.before.before.before.before.if2.false,
+      lt-ltb _ _ below.if-bit-lt8.true,
+      one_bit a.bit below.if-bit-lt8.true,
+      c.before.before.before.before.if-b.false,
       zero-mul (2 ^ a.bit),
       or_zero_r (bit_and (get_or a.image.now a.at 0) (255 - 2 ^ a.bit)),
     )
@@ -49,4 +49,4 @@ unfolding put_flag
 put_flag_spec =
     tie.close
     (tie.spec (search rules) (search rules) (search rules) (search rules) (search rules) (search rules) returns (search rules) returns-2
-    (λ c. rw (le-ltb _ _ c.if1.false)))
+    (λ c. rw (le-ltb _ _ c.if-bit-lt8.false)))

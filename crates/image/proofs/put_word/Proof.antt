@@ -28,21 +28,21 @@ put image at n i rest lt =
     let next : at + (i + 1) ≡ suc (at + i) = omega arith in
     rw (count, put_word, next)
 
-loop-again : tie.Need-loop-preserved invariant-loop decreases-loop
+loop-again : tie.Need-loop-i-preserved invariant-loop decreases-loop
 loop-again c =
     let a = c.before.before.before.before.before.before.before.before.before.args in
-    let l = c.before.before.before.before.before.loop in
+    let l = c.before.before.before.before.before.loop-i in
     let n = c.before.before.before.before.before.before.up-to-8.result in (
       omega arith,
       c.before.before.poke.auto.0 ∙ l.invariant.1,
       rw c.before.before.poke.ensures
-          (put l.image a.at n l.i l.rest c.before.before.before.before.loop-test.true ∙ l.invariant.2),
+          (put l.image a.at n l.i l.rest c.before.before.before.before.loop-i-test.true ∙ l.invariant.2),
     )
 
-returns-2 : tie.Need-returns-2 invariant-loop decreases-loop
+returns-2 : tie.Need-returns invariant-loop decreases-loop
 unfolding put_word
 returns-2 c =
-    let l = c.before.loop in
+    let l = c.before.loop-i in
     let n = c.before.before.up-to-8.result in
     let none : n - l.i ≡ 0 = omega arith in
     rw (← c.before.before.up-to-8.ensures) (rw none at l.invariant.2)
@@ -51,10 +51,10 @@ pub put_word_spec : {M : Type 1} → statement M
 put_word_spec =
     tie.close
     (tie.spec invariant-loop decreases-loop
-    (λ c. sym (put_word_past _ _ _ _ c.if1.true))
+    (λ c. sym (put_word_past _ _ _ _ c.if-image-at.true))
     (search rules)
     (λ c. (omega arith, refl, rw (add-zero, sub-zero)))
     (λ c. omega (arith, c.before.before.before.before.before.before.well-formed.0, c.before.before.before.up-to-8.ensures))
     (λ c. omega arith) (search rules) (λ c. omega arith) (λ c. omega arith) loop-again
-    (λ c. c.before.loop.invariant.1)
+    (λ c. c.before.loop-i.invariant.1)
     returns-2)

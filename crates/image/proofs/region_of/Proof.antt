@@ -8,9 +8,9 @@ pub region_of_spec : {M : Type 1} → statement M
 region_of_spec =
     tie.close
     (tie.spec
-    (λ c. sym (region_user _ c.if1.true))
-    (λ c. sym (region_registers _ c.before.if1.false c.if2.true))
-    (λ c. sym (region_calibration _ c.before.if2.false c.if3.true))
-    (λ c. sym (region_reserved _ c.before.if3.false c.if4.true))
-    (λ c. sym (region_log _ c.before.if4.false c.if5.true))
-    (λ c. sym (region_past _ c.if5.false)))
+    (λ c. sym (region_user _ c.if-address-lt512.true))
+    (λ c. sym (region_registers _ c.before.if-address-lt512.false c.if-address-lt576.true))
+    (λ c. sym (region_calibration _ c.before.if-address-lt576.false c.if-address-lt640.true))
+    (λ c. sym (region_reserved _ c.before.if-address-lt640.false c.if-address-lt4096.true))
+    (λ c. sym (region_log _ c.before.if-address-lt4096.false c.if-address-lt12288.true))
+    (λ c. sym (region_past _ c.if-address-lt12288.false)))

@@ -11,11 +11,11 @@ use Rattle.image.specs.declared.Region.TheVariants.{Registers}
 use Rattle.image.proofs.register.Statement.{statement}
 use Rattle.image.proofs.register.Tie as tie
 
-returns-2 : tie.Need-returns-2
+returns-2 : tie.Need-returns-else-offset-lt64
 unfolding register_at named
 returns-2 c =
     let image = c.before.before.args.image.now in
-    rw (get_or-eq_default named 0 c.if1.false, and_zero_r (byte_in image (Registers c.before.before.args.offset)))
+    rw (get_or-eq_default named 0 c.if-offset-lt64.false, and_zero_r (byte_in image (Registers c.before.before.args.offset)))
 
 pub register_spec : {M : Type 1} → statement M
 unfolding register_at named

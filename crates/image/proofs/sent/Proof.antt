@@ -10,52 +10,52 @@ use Rattle.image.specs.Tables.{always_one, register_at}
 use Rattle.image.proofs.sent.Statement.{statement}
 use Rattle.image.proofs.sent.Tie as tie
 
-returns : tie.Need-returns
+returns : tie.Need-returns-then-o-eq38
 unfolding sent_in sent_byte
 returns c =
     let a = c.before.before.before.before.before.before.args in
-    let there = sym c.before.before.before.before.region-of.ensures ∙ c.before.before.offset2.given.1 in
-    sym (sent_in_lem a.image.now a.code a.address there ∙ rw (eq-eqb _ _ c.if1.true))
+    let there = sym c.before.before.before.before.region-of.ensures ∙ c.before.before.offset-in-Registers-1.given.1 in
+    sym (sent_in_lem a.image.now a.code a.address there ∙ rw (eq-eqb _ _ c.if-o-eq38.true))
 
 array-read-result : tie.Need-array-read-result
 array-read-result c =
     register_offset_lt _
-    (sym c.before.before.before.before.before.region-of.ensures ∙ c.before.before.before.offset2.given.1)
+    (sym c.before.before.before.before.before.region-of.ensures ∙ c.before.before.before.offset-in-Registers-1.given.1)
 
-returns-2 : tie.Need-returns-2
+returns-2 : tie.Need-returns-in-User
 unfolding sent_in sent_byte
 returns-2 c =
     let a = c.before.before.before.before.before.before.args in
     let there = sym c.before.before.before.before.region-of.ensures ∙ c.before.before.offset.given.1 in
     c.peek.ensures ∙ sym (sent_in_lem a.image.now a.code a.address there)
 
-returns-3 : tie.Need-returns-3
+returns-3 : tie.Need-returns-else-o-eq38
 unfolding sent_in sent_byte register_at always_one
 returns-3 c =
     let a = c.before.before.before.before.before.before.before.args in
-    let there = sym c.before.before.before.before.before.region-of.ensures ∙ c.before.before.before.offset2.given.1 in
-    sym (sent_in_lem a.image.now a.code a.address there ∙ rw (ne_eqb _ _ c.before.if1.false, c.register.ensures))
+    let there = sym c.before.before.before.before.before.region-of.ensures ∙ c.before.before.before.offset-in-Registers-1.given.1 in
+    sym (sent_in_lem a.image.now a.code a.address there ∙ rw (ne_eqb _ _ c.before.if-o-eq38.false, c.register.ensures))
 
-returns-4 : tie.Need-returns-4
+returns-4 : tie.Need-returns-in-Calibration
 unfolding sent_in sent_byte
 returns-4 c =
     let a = c.before.before.before.before.before.before.args in
-    let there = sym c.before.before.before.before.region-of.ensures ∙ c.before.before.offset3.given.1 in
-    c.peek2.ensures ∙ sym (sent_in_lem a.image.now a.code a.address there)
+    let there = sym c.before.before.before.before.region-of.ensures ∙ c.before.before.offset-in-Calibration-1.given.1 in
+    c.peek-in-Calibration.ensures ∙ sym (sent_in_lem a.image.now a.code a.address there)
 
-returns-5 : tie.Need-returns-5
+returns-5 : tie.Need-returns-in-Reserved
 unfolding sent_in sent_byte
 returns-5 c =
     let a = c.before.before.before.before.args in
     let there = sym c.before.before.region-of.ensures ∙ c.enum_told.given.1 in
     sym (sent_in_lem a.image.now a.code a.address there)
 
-returns-6 : tie.Need-returns-6
+returns-6 : tie.Need-returns-in-Log
 unfolding sent_in sent_byte
 returns-6 c =
     let a = c.before.before.before.before.before.before.args in
-    let there = sym c.before.before.before.before.region-of.ensures ∙ c.before.before.offset4.given.1 in
-    c.peek3.ensures ∙ sym (sent_in_lem a.image.now a.code a.address there)
+    let there = sym c.before.before.before.before.region-of.ensures ∙ c.before.before.offset-in-Log-1.given.1 in
+    c.peek-in-Log.ensures ∙ sym (sent_in_lem a.image.now a.code a.address there)
 
 pub sent_spec : {M : Type 1} → statement M
 sent_spec =

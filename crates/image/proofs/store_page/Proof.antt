@@ -29,18 +29,18 @@ next image pad page i h =
     let up : page + (i + 1) ≡ suc (page + i) = omega arith in
     rw (drop-cons pad i 0 h, stored_run, up, add-one i)
 
-loop-holds : tie.Need-loop-init invariant-loop decreases-loop
+loop-holds : tie.Need-loop-i-init invariant-loop decreases-loop
 unfolding stored_page
 loop-holds c =
     let a = c.before.args in
     let there : a.address - a.address % 32 + a.address % 32 ≡ a.address = omega arith in
     (omega arith, refl, rw there)
 
-loop-again : tie.Need-loop-preserved invariant-loop decreases-loop
+loop-again : tie.Need-loop-i-preserved invariant-loop decreases-loop
 loop-again c =
     let start = c.before.before.before.before.before.before.before in
     let a = start.args in
-    let l = c.before.before.before.before.before.loop in
+    let l = c.before.before.before.before.before.loop-i in
     let whole : length a.t2 ≡ 32 = good_length (e_int w8) 32 a.t2 _ start.well-formed.1.0 in (
       omega arith,
       c.before.before.store.auto.0 ∙ l.invariant.1,
@@ -52,7 +52,7 @@ returns : tie.Need-returns invariant-loop decreases-loop
 unfolding stored_run
 returns c =
     let a = c.before.before.before.args in
-    let l = c.before.loop in
+    let l = c.before.loop-i in
     let whole : length a.t2 ≡ 32 = good_length (e_int w8) 32 a.t2 _ c.before.before.before.well-formed.1.0 in
     let past : length a.t2 ≤ l.i = omega arith in
     rw (drop_of_length-le a.t2 past) at l.invariant.2
@@ -62,5 +62,5 @@ store_page_spec =
     tie.close
     (tie.spec invariant-loop decreases-loop (λ c. omega arith) loop-holds (λ c. omega arith) (λ c. omega arith) (λ c. omega arith) (search rules)
     (λ c. omega arith) (λ c. omega arith) loop-again
-    (λ c. c.before.loop.invariant.1)
+    (λ c. c.before.loop-i.invariant.1)
     returns)

@@ -28,33 +28,33 @@ gathered image at n i pos le =
     rw (count, word_at, next) (omega arith)
 
 -- seven bytes at most are gathered before the last turn
-small : (c : tie.In-loop invariant-loop decreases-loop) → c.before.loop.v < 256 ^ 7
+small : (c : tie.In-loop-i invariant-loop decreases-loop) → c.before.loop-i.v < 256 ^ 7
 small c =
     let a = c.before.before.before.before.before.args in
-    let i = c.before.loop.i in
+    let i = c.before.loop-i.i in
     let n = c.before.before.up-to-8.result in
     lt_of_lt_of_le
-    (rw c.before.loop.invariant.1
+    (rw c.before.loop-i.invariant.1
     (word_lt a.image.now (a.at + i) (n - i) (λ k. (c.before.before.before.before.shared-slice-known.given k).fits)))
     (pow-le-pow_right {n = 256} (omega arith) {i = n - i} {j = 7} (omega (arith, c.before.before.up-to-8.ensures)))
 
-loop-again : tie.Need-loop-preserved invariant-loop decreases-loop
+loop-again : tie.Need-loop-i-preserved invariant-loop decreases-loop
 loop-again c =
     let a = c.before.before.before.before.before.before.args in
-    let i = c.before.before.loop.i in
+    let i = c.before.before.loop-i.i in
     let n = c.before.before.before.up-to-8.result in
-    let le : i ≤ n = c.before.before.loop.invariant.0 in (
+    let le : i ≤ n = c.before.before.loop-i.invariant.0 in (
       omega arith,
-      rw (c.before.before.loop.invariant.1, c.peek.ensures)
-          (gathered a.image.now a.at n i c.before.loop-test.true le),
+      rw (c.before.before.loop-i.invariant.1, c.peek.ensures)
+          (gathered a.image.now a.at n i c.before.loop-i-test.true le),
     )
 
-returns-2 : tie.Need-returns-2 invariant-loop decreases-loop
+returns-2 : tie.Need-returns invariant-loop decreases-loop
 returns-2 c =
-    let done : c.before.loop.i ≡ 0 = omega arith in
-    c.before.loop.invariant.1 ∙ rw (done, c.before.before.up-to-8.ensures, add-zero, sub-zero)
+    let done : c.before.loop-i.i ≡ 0 = omega arith in
+    c.before.loop-i.invariant.1 ∙ rw (done, c.before.before.up-to-8.ensures, add-zero, sub-zero)
 
-loop-holds : tie.Need-loop-init invariant-loop decreases-loop
+loop-holds : tie.Need-loop-i-init invariant-loop decreases-loop
 unfolding word_at
 loop-holds c = (omega arith, rw (sub_self c.up-to-8.result))
 
@@ -62,7 +62,7 @@ pub word_spec : {M : Type 1} → statement M
 word_spec =
     tie.close
     (tie.spec invariant-loop decreases-loop
-    (λ c. sym (word_past _ _ _ c.if1.true))
+    (λ c. sym (word_past _ _ _ c.if-image-at.true))
     (search rules) loop-holds (λ c. omega arith)
     (λ c. omega (arith, small c))
     (λ c. omega (arith, c.before.before.before.before.before.well-formed.0, c.before.before.up-to-8.ensures))

@@ -16,29 +16,29 @@ none_below : (k n : ℕ) → NoneBelow k n → k ≤ n
 none_below zero n none = omega arith
 none_below (suc k) n (none, other) = omega (arith, none_below k n none, other)
 
-returns-16 : tie.Need-returns-16
+returns-16 : tie.Need-returns-in_default
 returns-16 c =
     let number = c.before.args.number in
-    let last : number % 16 ≡ 15 = omega (arith, none_below 15 (number % 16) c.match.rest) in
+    let last : number % 16 ≡ 15 = omega (arith, none_below 15 (number % 16) c.in-0.rest) in
     rw last
 
 pub entry_spec : {M : Type 1} → statement M
 entry_spec =
     tie.close
     (tie.spec
-    (λ c. rw c.match.keys1)
-    (λ c. rw c.match.keys2)
-    (λ c. rw c.match.keys3)
-    (λ c. rw c.match.keys4)
-    (λ c. rw c.match.keys5)
-    (λ c. rw c.match.keys6)
-    (λ c. rw c.match.keys7)
-    (λ c. rw c.match.keys8)
-    (λ c. rw c.match.keys9)
-    (λ c. rw c.match.keys10)
-    (λ c. rw c.match.keys11)
-    (λ c. rw c.match.keys12)
-    (λ c. rw c.match.keys13)
-    (λ c. rw c.match.keys14)
-    (λ c. rw c.match.keys15)
+    (λ c. rw c.in-0.keys1)
+    (λ c. rw c.in-0.keys2)
+    (λ c. rw c.in-0.keys3)
+    (λ c. rw c.in-0.keys4)
+    (λ c. rw c.in-0.keys5)
+    (λ c. rw c.in-0.keys6)
+    (λ c. rw c.in-0.keys7)
+    (λ c. rw c.in-0.keys8)
+    (λ c. rw c.in-0.keys9)
+    (λ c. rw c.in-0.keys10)
+    (λ c. rw c.in-0.keys11)
+    (λ c. rw c.in-0.keys12)
+    (λ c. rw c.in-0.keys13)
+    (λ c. rw c.in-0.keys14)
+    (λ c. rw c.in-0.keys15)
     returns-16)
