@@ -1,12 +1,11 @@
 -- The calls of the library for C, by `new_tag`, `step`, the list of request #101 and the dock's listing, through the bytes of a record:
 -- what each answers, and what it leaves in the bytes and places that it is lent. Assumes nothing.
-use Rattle.std.specs.Prelude.{true, not, List, [], ◌∷◌, ◌++◌, ◌≡◌, ℕ, ◌≤◌, eqb, ltb, ℤ, length}
+use Rattle.std.specs.Prelude.{true, not, List, [], ◌∷◌, ◌++◌, ◌≡◌, ℕ, ◌≤◌, eqb, ltb, ℤ, length, if◌then◌else◌}
 use Rattle.std.proofs.lemmas.List.Edits.{sets}
 use Rattle.answer.specs.Answer.{answer_number}
 use Rattle.answer.specs.declared.Answer.{Answer}
 use Rattle.batch.specs.Batch as batch
 use Rattle.bits.specs.Bits.{digit}
-use Rattle.bits.specs.Choose.{if◌then◌else◌}
 use Rattle.dock.specs.declared.Listing.{Listing}
 use Rattle.dock.specs.Entries.{period_of}
 use Rattle.dock.specs.Listing.{answer_of, is_accepted, listing_of, temperatures_of, seconds_at}

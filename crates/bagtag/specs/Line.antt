@@ -1,10 +1,9 @@
 -- The calls of the library for C that go to several tags on one line (request #106), by `new_line` and `line_step`, through the bytes of
 -- their records: what each answers, and what it leaves in the bytes that it is lent. Assumes nothing.
-use Rattle.std.specs.Prelude.{true, false, ◌||◌, List, ◌≡◌, ℕ, eqb, length}
+use Rattle.std.specs.Prelude.{true, false, ◌||◌, List, ◌≡◌, ℕ, eqb, length, if◌then◌else◌}
 use Rattle.answer.specs.Answer.{answer_number}
 use Rattle.answer.specs.declared.Answer.{Answer}
 use Rattle.bits.specs.Bits.{digit}
-use Rattle.bits.specs.Choose.{if◌then◌else◌}
 use Rattle.board.specs.declared.Board.{Board}
 use Rattle.board.specs.Board.{Left, judged_by, line_step, new_judged, new_line}
 use Rattle.rack.specs.Rack.{has_room, is_rack, board_in, same_held, rack_of, AllFit}

@@ -1,9 +1,8 @@
 -- "for two numbers, the first bit where they part. For equal numbers that bit is given as 64" (request #107), once for every width. Assumes
 -- nothing.
 use Rattle.std.specs.Bool.{beq}
-use Rattle.std.specs.Prelude.{ℕ, zero, suc, ◌/◌}
+use Rattle.std.specs.Prelude.{ℕ, zero, suc, ◌/◌, if◌then◌else◌}
 use Rattle.bits.specs.Bits.{bit_of}
-use Rattle.bits.specs.Choose.{if◌then◌else◌}
 pub mod Laws
 
 -- the least of the low w bits in which two numbers differ, w if they differ in none

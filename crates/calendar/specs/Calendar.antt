@@ -1,8 +1,7 @@
 -- The clock, "seconds, minutes, hours, date, month with CENT in bit 7, year, all BCD" (document 01, "Memory"), its hours in the form
 -- that bit 6 gives (request #104), and one second on ("A mission"). Assumes nothing.
-use Rattle.std.specs.Prelude.{Bool, true, false, not, ◌&&◌, ◌||◌, ℕ, zero, suc, ◌+◌, ◌-◌, ◌*◌, ◌/◌, ◌%◌, ◌≤◌, leb, ltb, eqb}
+use Rattle.std.specs.Prelude.{Bool, true, false, not, ◌&&◌, ◌||◌, ℕ, zero, suc, ◌+◌, ◌-◌, ◌*◌, ◌/◌, ◌%◌, ◌≤◌, leb, ltb, eqb, if◌then◌else◌}
 use Rattle.bits.specs.Bits.{bit_of}
-use Rattle.bits.specs.Choose.{if◌then◌else◌}
 use Rattle.calendar.specs.declared.Clock.{Clock}
 use Rattle.calendar.specs.declared.Stepped.{Stepped}
 pub mod Laws

@@ -1,9 +1,8 @@
 -- What the programs that play events take in, print and leave (document 01, "What is built"; request #106), over groups of any size and
 -- over whatever goes in and comes back with an event: a tag's record, or a line's. Assumes nothing.
-use Rattle.std.specs.Prelude.{Bool, true, false, List, [], ◌∷◌, ◌++◌, ◌≡◌, ℕ, zero, suc, ◌+◌, ◌*◌, ◌-◌, ◌/◌, ◌%◌, ◌≤◌, min, eqb, length, take, drop}
+use Rattle.std.specs.Prelude.{Bool, true, false, List, [], ◌∷◌, ◌++◌, ◌≡◌, ℕ, zero, suc, ◌+◌, ◌*◌, ◌-◌, ◌/◌, ◌%◌, ◌≤◌, min, eqb, length, take, drop, if◌then◌else◌}
 use Rattle.answer.specs.Answer.{refusal_text}
 use Rattle.bits.specs.Bits.{digit}
-use Rattle.bits.specs.Choose.{if◌then◌else◌}
 pub mod Laws
 
 -- ---- groups

@@ -1,6 +1,5 @@
 -- The clock and the stamp in the image (document 01, "Memory": "0200h-0205h clock", "0219h stamp, 6 bytes"). Assumes nothing.
-use Rattle.std.specs.Prelude.{List, [], ◌∷◌, ℕ, suc, get_or, set}
-use Rattle.bits.specs.Choose.{if◌then◌else◌}
+use Rattle.std.specs.Prelude.{List, [], ◌∷◌, ℕ, suc, get_or, set, if◌then◌else◌}
 use Rattle.calendar.specs.Calendar.{next_second}
 use Rattle.calendar.specs.declared.Clock.{Clock}
 use Rattle.image.specs.Registers.{eosc}

@@ -1,9 +1,8 @@
 -- "CRC-8 is x^8+x^5+x^4+1, low bit first, from 0" (document 01, "Choosing a tag on the line"), and "CRC-16 is x^16+x^15+x^2+1,
 -- from 0, sent inverted, low byte first" ("Memory commands"): one definition, over the width and the polynomial. Assumes nothing.
-use Rattle.std.specs.Prelude.{Bool, List, [], ◌∷◌, ℕ, zero, suc, ◌+◌, ◌-◌, ◌/◌, ◌%◌, ◌^◌, eqb}
+use Rattle.std.specs.Prelude.{Bool, List, [], ◌∷◌, ℕ, zero, suc, ◌+◌, ◌-◌, ◌/◌, ◌%◌, ◌^◌, eqb, if◌then◌else◌}
 use Rattle.std.specs.Bool.{xor}
 use Rattle.std.specs.Int.Bits.{bit_xor}
-use Rattle.bits.specs.Choose.{if◌then◌else◌}
 use Rattle.bits.specs.Bits.{bit_of, bits_of}
 pub mod Laws
 pub mod Linear

@@ -1,10 +1,9 @@
 -- Which dumps are refused, and by which number (document 01, "Events and what they return": 7, 8 and 9, "dump length 7, then
 -- line by line 7, 9, 8"). Assumes nothing.
-use Rattle.std.specs.Prelude.{Bool, ◌&&◌, not, List, [], ℕ, zero, suc, eqb, length, get_or, replicate}
+use Rattle.std.specs.Prelude.{Bool, ◌&&◌, not, List, [], ℕ, zero, suc, eqb, length, get_or, replicate, if◌then◌else◌}
 use Rattle.answer.specs.Answer.{answer_number}
 use Rattle.answer.specs.declared.Answer.{Answer}
 use Rattle.answer.specs.declared.Answer.TheVariants.{Accepted, DumpForm, LinePage, LineCrc}
-use Rattle.bits.specs.Choose.{if◌then◌else◌}
 use Rattle.crc.specs.Crc.{sent_low, sent_high}
 use Rattle.hexadecimal.specs.Hex.{all_digits}
 use Rattle.dump.specs.Lines.{page_of, line_at, bytes_in, page_in, data_in, crc_in, data_lines}

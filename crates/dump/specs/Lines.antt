@@ -1,7 +1,6 @@
 -- "258 lines of hexadecimal: pages 0200h, 0220h, 1000h to 2FE0h. A line is page address high byte first, 32 data bytes, and the
 -- two CRC bytes that Read Memory sends for that page read first." (Document 01, "The dump and its listing".) Assumes nothing.
-use Rattle.std.specs.Prelude.{◌&&◌, List, [], ◌∷◌, ◌++◌, ℕ, zero, suc, ◌+◌, ◌-◌, ◌*◌, ◌/◌, ◌%◌, ltb, leb, get_or, take, drop}
-use Rattle.bits.specs.Choose.{if◌then◌else◌}
+use Rattle.std.specs.Prelude.{◌&&◌, List, [], ◌∷◌, ◌++◌, ℕ, zero, suc, ◌+◌, ◌-◌, ◌*◌, ◌/◌, ◌%◌, ltb, leb, get_or, take, drop, if◌then◌else◌}
 use Rattle.crc.specs.Crc.{crc16_run, sent_low, sent_high}
 use Rattle.hexadecimal.specs.Hex.{hex_text, bytes_at}
 pub mod Laws

@@ -1,7 +1,6 @@
 -- The exchange as a whole: what a reset leaves, long or short, what a slot asks of the image, and what it gives (document 01, "Choosing a
 -- tag on the line" and "Memory commands"; request #103). Assumes nothing.
-use Rattle.std.specs.Prelude.{Bool, ◌&&◌, ℕ, eqb}
-use Rattle.bits.specs.Choose.{if◌then◌else◌}
+use Rattle.std.specs.Prelude.{Bool, ◌&&◌, ℕ, eqb, if◌then◌else◌}
 use Rattle.bus.specs.declared.Deed.{Deed}
 use Rattle.bus.specs.declared.Hearing.{Hearing}
 use Rattle.bus.specs.declared.Moved.{Moved}

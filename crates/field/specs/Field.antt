@@ -1,6 +1,5 @@
 -- The eight password bytes, gathered whole and judged once, at their last bit (document 01, "Memory commands"). Assumes nothing.
-use Rattle.std.specs.Prelude.{Bool, true, false, ◌&&◌, not, ℕ, ◌+◌, eqb, ltb}
-use Rattle.bits.specs.Choose.{if◌then◌else◌}
+use Rattle.std.specs.Prelude.{Bool, true, false, ◌&&◌, not, ℕ, ◌+◌, eqb, ltb, if◌then◌else◌}
 use Rattle.bits.specs.Bits.{shift_in}
 use Rattle.bus.specs.declared.Bus.{Bus}
 use Rattle.bus.specs.declared.Control.{Control}

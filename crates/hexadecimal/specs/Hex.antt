@@ -1,7 +1,6 @@
 -- Numbers as text: "digits 0-9 A-F" (document 01, "Events and what they return", number 7), "numbers high byte first, upper
 -- case" ("The dump and its listing"). A text is the list of its characters' codes. Assumes nothing.
-use Rattle.std.specs.Prelude.{Bool, true, false, ◌&&◌, List, [], ◌∷◌, ◌++◌, ℕ, zero, suc, ◌+◌, ◌-◌, ◌*◌, ◌/◌, ◌%◌, ltb, leb, get_or}
-use Rattle.bits.specs.Choose.{if◌then◌else◌}
+use Rattle.std.specs.Prelude.{Bool, true, false, ◌&&◌, List, [], ◌∷◌, ◌++◌, ℕ, zero, suc, ◌+◌, ◌-◌, ◌*◌, ◌/◌, ◌%◌, ltb, leb, get_or, if◌then◌else◌}
 use Rattle.hexadecimal.specs.declared.Pair.{Pair}
 use Rattle.hexadecimal.specs.declared.Pair.TheVariants.{Byte, Bad}
 pub mod Laws

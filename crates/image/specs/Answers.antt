@@ -1,6 +1,5 @@
 -- What the line asks of the image (document 01, "Choosing a tag on the line" and "Memory commands"). Assumes nothing.
-use Rattle.std.specs.Prelude.{Bool, true, ◌&&◌, ◌||◌, not, List, ℕ, eqb, ltb}
-use Rattle.bits.specs.Choose.{if◌then◌else◌}
+use Rattle.std.specs.Prelude.{Bool, true, ◌&&◌, ◌||◌, not, List, ℕ, eqb, ltb, if◌then◌else◌}
 use Rattle.image.specs.Registers.{bor, thf, tlf, mip, password_control, read_password, full_password}
 pub mod Laws
 

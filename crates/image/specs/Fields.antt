@@ -1,9 +1,8 @@
 -- The two kinds of field that the registers have: a word, some bytes "low first", and a flag, one bit of a byte
 -- (document 01, "Memory"). A register's place in the image is its address. Assumes nothing.
-use Rattle.std.specs.Prelude.{Bool, ◌||◌, List, ℕ, zero, suc, ◌+◌, ◌-◌, ◌*◌, ◌/◌, ◌%◌, ◌^◌, ltb, leb, get_or, set}
+use Rattle.std.specs.Prelude.{Bool, ◌||◌, List, ℕ, zero, suc, ◌+◌, ◌-◌, ◌*◌, ◌/◌, ◌%◌, ◌^◌, ltb, leb, get_or, set, if◌then◌else◌}
 use Rattle.std.specs.Int.Bits.{bit_and, bit_or}
 use Rattle.bits.specs.Bits.{digit, bit_of}
-use Rattle.bits.specs.Choose.{if◌then◌else◌}
 pub mod Laws
 
 -- the number in `count` bytes from `at` on, low byte first

@@ -1,13 +1,13 @@
 -- A frame down to the bit: what a change leaves. Beside the runs of bytes that it may touch stand the flags that it may put,
 -- each a byte's place and a bit of it; on numerals the tests compute, and `tt` closes them. Assumes nothing.
-use Rattle.std.specs.Prelude.{◌≡◌, refl, Bool, true, false, not, ◌&&◌, ◌||◌, List, [], ◌∷◌, ℕ, T, ltb, eqb, get_or, set, length}
+use Rattle.std.specs.Prelude.{◌≡◌, refl, Bool, true, false, not, ◌&&◌, ◌||◌, List, [], ◌∷◌, ℕ, T, ltb, eqb, get_or, set, length, if◌then◌else◌}
 use Rattle.std.proofs.Common.{sym, ◌∙◌, ⊎_elim, inl, eqb→eq, length-set, get_or-set_same, get_or-set_other, arith}
 use Rattle.std.proofs.Math.Logic.{dite}
 use Rattle.std.specs.Float.Ieee.Fits.{and_l, and_r, and_i}
 use Rattle.std.proofs.Math.Seq.{set_out}
 use Rattle.std.proofs.Math.Decide.{ℕ_discrete, dec_lt}
 use Rattle.bits.specs.Bits.{bit_of}
-use Rattle.bits.specs.Choose.{if◌then◌else◌, choice}
+use Rattle.bits.specs.Choose.{choice}
 use Rattle.bits.specs.Tests.{or_cases, or_of}
 use Rattle.image.specs.Fields.{word_at, put_word, flag_at, put_flag, apart}
 use Rattle.image.specs.Fields.Laws.{flag_put_flag_other}

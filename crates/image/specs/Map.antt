@@ -1,7 +1,6 @@
 -- "User 0000h-01FFh, registers 0200h-023Fh, calibration 0240h-027Fh, log 1000h-2FFFh" (document 01, "Memory"), and where
 -- each byte lies in the lent image: "user memory 512, register pages 64, calibration 64, log 8,192". Assumes nothing.
-use Rattle.std.specs.Prelude.{List, ℕ, ◌+◌, ◌-◌, ltb, get_or}
-use Rattle.bits.specs.Choose.{if◌then◌else◌}
+use Rattle.std.specs.Prelude.{List, ℕ, ◌+◌, ◌-◌, ltb, get_or, if◌then◌else◌}
 use Rattle.image.specs.declared.Region.{Region}
 use Rattle.image.specs.declared.Region.TheVariants.{User, Registers, Calibration, Reserved, Log}
 pub mod Laws

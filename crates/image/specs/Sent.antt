@@ -1,7 +1,6 @@
 -- What Read Memory sends at an address (document 01, "Memory"). Assumes nothing.
-use Rattle.std.specs.Prelude.{List, ℕ, eqb, get_or}
+use Rattle.std.specs.Prelude.{List, ℕ, eqb, get_or, if◌then◌else◌}
 use Rattle.std.specs.Int.Bits.{bit_and, bit_or}
-use Rattle.bits.specs.Choose.{if◌then◌else◌}
 use Rattle.image.specs.Map.{region_at, byte_in}
 use Rattle.image.specs.Tables.{always_one, named}
 use Rattle.image.specs.declared.Region.{Region}

@@ -1,6 +1,5 @@
 -- What the tag hears, byte by byte (document 01, "Memory commands"; the order is the document's). Assumes nothing.
-use Rattle.std.specs.Prelude.{Bool, true, false, ℕ, ◌+◌, ◌*◌, ◌%◌, eqb, ltb, set}
-use Rattle.bits.specs.Choose.{if◌then◌else◌}
+use Rattle.std.specs.Prelude.{Bool, true, false, ℕ, ◌+◌, ◌*◌, ◌%◌, eqb, ltb, set, if◌then◌else◌}
 use Rattle.bits.specs.Bits.{shift_in}
 use Rattle.bus.specs.declared.Addressed.{Addressed}
 use Rattle.bus.specs.declared.Bus.{Bus}

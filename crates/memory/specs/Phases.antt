@@ -1,7 +1,6 @@
 -- What a stage lets a tag do, what a question's answer is taken for, and the deed of each slot (demand 3 of the order, request
 -- #109). Assumes nothing.
-use Rattle.std.specs.Prelude.{Bool, true, false, ◌||◌, ℕ, eqb, ltb}
-use Rattle.bits.specs.Choose.{if◌then◌else◌}
+use Rattle.std.specs.Prelude.{Bool, true, false, ◌||◌, ℕ, eqb, ltb, if◌then◌else◌}
 use Rattle.bits.specs.Bits.{digit, shift_in}
 use Rattle.bus.specs.declared.Bus.{Bus}
 use Rattle.bus.specs.declared.Deed.{Deed}

@@ -1,6 +1,5 @@
 -- What the tag sends, byte by byte (document 01, "Memory commands"). Assumes nothing.
-use Rattle.std.specs.Prelude.{true, false, ℕ, ◌+◌, ◌/◌, ◌%◌, eqb, ltb}
-use Rattle.bits.specs.Choose.{if◌then◌else◌}
+use Rattle.std.specs.Prelude.{true, false, ℕ, ◌+◌, ◌/◌, ◌%◌, eqb, ltb, if◌then◌else◌}
 use Rattle.bits.specs.Bits.{bit_of}
 use Rattle.crc.specs.Crc.{sent_low, sent_high}
 use Rattle.bus.specs.declared.Bus.{Bus}

@@ -1,9 +1,8 @@
 -- The enums of a record as numbers: a case by its place in the enum's declaration, from 0 on, and beside it two numbers for what it
 -- holds: one thing stands in the second, and 0 where there is nothing. Whatever the numbers are, they stand for some case; those that are a case's own are told by coding it
 -- again. Assumes nothing.
-use Rattle.std.specs.Prelude.{Bool, ◌&&◌, ℕ, eqb, ltb}
+use Rattle.std.specs.Prelude.{Bool, ◌&&◌, ℕ, eqb, ltb, if◌then◌else◌}
 use Rattle.bits.specs.Bits.{digit}
-use Rattle.bits.specs.Choose.{if◌then◌else◌}
 use Rattle.bus.specs.declared.Addressed.{Addressed}
 use Rattle.bus.specs.declared.Control.{Control}
 use Rattle.bus.specs.declared.Guarded.{Guarded}

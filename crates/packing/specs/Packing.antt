@@ -1,9 +1,8 @@
 -- The tag's record as 80 bytes: what it packs to, which bytes are a record's, and the record that they stand for. The order of the fields
 -- is that of the offsets in include/bagtag.h. Assumes nothing.
-use Rattle.std.specs.Prelude.{Bool, not, ◌&&◌, List, [], ◌∷◌, ◌++◌, map, ◌≡◌, ℕ, zero, suc, ◌/◌, ◌%◌, ◌^◌, ◌<◌, eqb, length, get_or}
+use Rattle.std.specs.Prelude.{Bool, not, ◌&&◌, List, [], ◌∷◌, ◌++◌, map, ◌≡◌, ℕ, zero, suc, ◌/◌, ◌%◌, ◌^◌, ◌<◌, eqb, length, get_or, if◌then◌else◌}
 use Rattle.bits.specs.Bits.{digit}
 use Rattle.bits.specs.Bytes.{Bytes}
-use Rattle.bits.specs.Choose.{if◌then◌else◌}
 use Rattle.bus.specs.declared.Bus.{Bus}
 use Rattle.bus.specs.declared.Held.{Held}
 use Rattle.exchange.specs.declared.Exchange.{Exchange}

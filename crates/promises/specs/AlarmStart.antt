@@ -3,7 +3,7 @@
 -- conversion has its low three bits 0. Flags, and entries from 1 on, don't change." Said by the bytes of the image, for any record and image
 -- that no event refuses; that "The dock's listing of entry 0 follows" is `Demand2`, by `History.kept`, and `Demand2.Met` has such a mission
 -- in numbers. A Forced Conversion "to 11 bits" is `Sentences.Mission.Forced`. Assumes nothing.
-use Rattle.std.specs.Prelude.{◌≡◌, Bool, List, [], ℕ, ◌+◌, ◌*◌, ◌/◌, ◌%◌, ◌≤◌, ◌<◌, length}
+use Rattle.std.specs.Prelude.{◌≡◌, Bool, List, [], ℕ, ◌+◌, ◌*◌, ◌/◌, ◌%◌, ◌≤◌, ◌<◌, length, if◌then◌else◌}
 use Rattle.std.proofs.Math.Path.{refl}
 use Rattle.std.proofs.Common.{◌∙◌, arith}
 use Rattle.std.proofs.Math.Bool.{true, false}
@@ -21,7 +21,7 @@ use Rattle.promises.specs.Sentences.Course.{Starts, Going, mission_ticks, settin
 use Rattle.promises.specs.Sentences.Mission.{wide, waits, alarms}
 use Rattle.promises.specs.Sentences.Ticking.{entry_number, log_byte, makes, Converted}
 use Rattle.promises.specs.Sentences.Mission.Ticks.{ticks}
-use Rattle.promises.specs.Words.{if◌then◌else◌, byte_at}
+use Rattle.promises.specs.Words.{byte_at}
 
 -- what a waiting conversion leaves. The latest reading is in 020Ch and 020Dh; entry 0 is the log's first, at 1000h
 pub record EightBits (reading : ℕ) (before after : List ℕ) : Type 0 where

@@ -1,13 +1,12 @@
 -- Request #101, "Many events in one call": a list's words are the events of a run, one by one, up to the first word that is no event; when
 -- it is refused, and what any cut of it into lists leaves. `batches` in Batches/Proof.antt proves it; `Calls` says that lists among other
 -- calls are runs too. `run` gives the line bits and the state; `Reached` is from a new tag by accepted events. Assumes nothing.
-use Rattle.std.specs.Prelude.{◌≡◌, Bool, true, false, not, ◌&&◌, ◌||◌, List, [], ◌∷◌, ◌++◌, map, ◌≢◌, ℕ, ◌-◌, eqb, leb, ltb, length, drop}
+use Rattle.std.specs.Prelude.{◌≡◌, Bool, true, false, not, ◌&&◌, ◌||◌, List, [], ◌∷◌, ◌++◌, map, ◌≢◌, ℕ, ◌-◌, eqb, leb, ltb, length, drop, if◌then◌else◌}
 use Rattle.batch.specs.declared.Batch.{Batch}
 use Rattle.batch.specs.Batch.{Listed, listed}
 use Rattle.batch.specs.Batch.Cuts.{joined}
 use Rattle.batch.proofs.events.Reads as call
 use Rattle.bits.specs.Bits.{digit}
-use Rattle.bits.specs.Choose.{if◌then◌else◌}
 use Rattle.record.specs.declared.Tag.{Tag}
 use Rattle.promises.specs.Ranges.{in_range}
 use Rattle.promises.specs.Runs.{State, Event, Accepts, run, Reached, Always}

@@ -1,11 +1,10 @@
 -- Calls of `tag::new`, `tag::event` and `batch::events` one after the other, as their own contracts have them: they lead to reached states,
 -- and the caller sees the line bits and gets the state that `run` gives. So what is said of `run`, demands 2 and 3 too, is said of the code. `calls` in
 -- Calls/Proof.antt proves it. Assumes nothing.
-use Rattle.std.specs.Prelude.{◌≡◌, Bool, true, false, ◌&&◌, List, [], ◌∷◌, ◌++◌, map, ℕ, ◌≤◌, ◌<◌, eqb, leb, ℤ, length, take}
+use Rattle.std.specs.Prelude.{◌≡◌, Bool, true, false, ◌&&◌, List, [], ◌∷◌, ◌++◌, map, ℕ, ◌≤◌, ◌<◌, eqb, leb, ℤ, length, take, if◌then◌else◌}
 use Rattle.batch.specs.declared.Batch.{Batch}
 use Rattle.batch.proofs.events.Reads as list
 use Rattle.bits.specs.Bits.{digit}
-use Rattle.bits.specs.Choose.{if◌then◌else◌}
 use Rattle.record.specs.declared.Answered.{Answered}
 use Rattle.tag.proofs.event.Reads as event
 use Rattle.tag.proofs.new.Reads as new

@@ -1,6 +1,6 @@
 -- Demand 3 of the order: what a person without a password can learn from the line, and what he can spoil. First the words that the
 -- statement uses, then its premises, then what it concludes. `demand3` in Demand3/Proof.antt proves it. Assumes nothing.
-use Rattle.std.specs.Prelude.{◌≡◌, Bool, true, false, List, [], ◌∷◌, ◌≢◌, ◌⊎◌, ℕ, ◌+◌, ◌*◌, ◌/◌, ◌^◌, ◌≤◌, eqb, ltb}
+use Rattle.std.specs.Prelude.{◌≡◌, Bool, true, false, List, [], ◌∷◌, ◌≢◌, ◌⊎◌, ℕ, ◌+◌, ◌*◌, ◌/◌, ◌^◌, ◌≤◌, eqb, ltb, if◌then◌else◌}
 use Rattle.exchange.specs.declared.Exchange.{Exchange}
 use Rattle.bus.specs.declared.Control.{Control}
 use Rattle.bus.specs.declared.Guarded.{Guarded}
@@ -9,7 +9,7 @@ use Rattle.bus.specs.declared.Stage.{Stage}
 use Rattle.select.specs.declared.Choosing.{Choosing}
 use Rattle.promises.specs.Runs.{State, Event, after, run, ticks_of, Reached, Always, Together, OnSlots}
 use Rattle.promises.specs.Sentences.Choosing.{alarm}
-use Rattle.promises.specs.Words.{if◌then◌else◌, byte_at, bit_at, word_at, mark_of, Stays}
+use Rattle.promises.specs.Words.{byte_at, bit_at, word_at, mark_of, Stays}
 pub mod Slot
 pub mod Image
 pub mod Left

@@ -1,9 +1,8 @@
 -- A mission's history: what a mission logs, told from its settings at Start and the readings of its ticks alone. It never looks at
 -- an image (document 01, "A mission"; the order's demand 2). Assumes nothing.
-use Rattle.std.specs.Prelude.{Bool, false, not, ◌&&◌, ◌||◌, cond, List, [], ◌∷◌, ◌++◌, ℕ, suc, ◌+◌, ◌-◌, ◌*◌, ◌/◌, ◌%◌, min, eqb, leb, ltb, ℤ, pos, ◌-ℤ◌, ◌*ℤ◌, take, drop}
+use Rattle.std.specs.Prelude.{Bool, false, not, ◌&&◌, ◌||◌, cond, List, [], ◌∷◌, ◌++◌, ℕ, suc, ◌+◌, ◌-◌, ◌*◌, ◌/◌, ◌%◌, min, eqb, leb, ltb, ℤ, pos, ◌-ℤ◌, ◌*ℤ◌, take, drop, if◌then◌else◌}
 use Rattle.calendar.specs.declared.Clock.{Clock}
 use Rattle.promises.specs.Sentences.Clock.{seconds_on}
-use Rattle.promises.specs.Words.{if◌then◌else◌}
 pub mod Laws
 pub mod Made
 

@@ -2,7 +2,7 @@
 -- record exactly if some record packs to them, demand 1 of each C call for any bytes at all, and that calls from `bagtag_new` on are those
 -- of a tag that is reached by events: so 6 never comes, and what is said of runs, demands 2 and 3 too, is said of the C calls. `library`
 -- in Library/Proof.antt proves it. Assumes nothing.
-use Rattle.std.specs.Prelude.{Bool, true, false, not, ◌&&◌, ◌||◌, List, [], ◌∷◌, ◌++◌, map, ◌≢◌, ◌↔◌, ◌≡◌, ℕ, zero, suc, ◌+◌, ◌*◌, ◌≤◌, ◌<◌, eqb, ltb, length, get_or, replicate, take, drop}
+use Rattle.std.specs.Prelude.{Bool, true, false, not, ◌&&◌, ◌||◌, List, [], ◌∷◌, ◌++◌, map, ◌≢◌, ◌↔◌, ◌≡◌, ℕ, zero, suc, ◌+◌, ◌*◌, ◌≤◌, ◌<◌, eqb, ltb, length, get_or, replicate, take, drop, if◌then◌else◌}
 use Rattle.bagtag.proofs.bagtag_event.Reads as bagtag_event
 use Rattle.bagtag.proofs.bagtag_events.Reads as bagtag_events
 use Rattle.bagtag.proofs.bagtag_list.Reads as bagtag_list
@@ -28,7 +28,7 @@ use Rattle.promises.specs.Runs.{State, Event, leaves, after, line_bit, run, Reac
 use Rattle.promises.specs.Sentences.Dump.{dump_number}
 use Rattle.promises.specs.Sentences.Listing.{signed}
 use Rattle.promises.specs.Sentences.Events.{number_in, own_number}
-use Rattle.promises.specs.Words.{if◌then◌else◌, mark_in, speed_in}
+use Rattle.promises.specs.Words.{mark_in, speed_in}
 pub mod Record
 pub mod Proof
 pub mod Line

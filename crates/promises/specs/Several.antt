@@ -2,7 +2,7 @@
 -- them. First the words, then the statements: a tag on the line is a tag alone, which carries all others; demand 1 of the line; its bits; that
 -- a Match touches no other tag; and, in Several/Demand3.antt, demand 3, whose premises Several/Met.antt meets. `one_tag` and `line_demand1` in
 -- Several/Proof.antt, `line_bits` in Several/Bits.antt and `touches_no_other` in Several/Others.antt prove them. Assumes nothing.
-use Rattle.std.specs.Prelude.{Bool, true, false, not, ◌&&◌, ◌||◌, ◌≡◌, ◌≢◌, ◌⊎◌, ℕ, zero, suc, ◌*◌, ◌^◌, ◌≤◌, ◌<◌, eqb, leb, length, get_or, take, drop, replicate}
+use Rattle.std.specs.Prelude.{Bool, true, false, not, ◌&&◌, ◌||◌, ◌≡◌, ◌≢◌, ◌⊎◌, ℕ, zero, suc, ◌*◌, ◌^◌, ◌≤◌, ◌<◌, eqb, leb, length, get_or, take, drop, replicate, if◌then◌else◌}
 use mathlib.Core.List.{List, [], ◌∷◌, ◌++◌, map, flat_map}
 use Rattle.answer.specs.declared.Answer.{Answer}
 use Rattle.bits.specs.Each.{each}
@@ -21,7 +21,7 @@ use Rattle.promises.specs.Runs.{State, Event, Kept, ticks_of}
 use Rattle.promises.specs.Sentences.Commands.{PassesFull}
 use Rattle.promises.specs.Sentences.Events.{number_in, own_number, clear_tag, sends_now}
 use Rattle.promises.specs.Sentences.Mission.{Cleared}
-use Rattle.promises.specs.Words.{if◌then◌else◌, among, low, bit_at, number_of, speed_of, Silent, Chosen}
+use Rattle.promises.specs.Words.{among, low, bit_at, number_of, speed_of, Silent, Chosen}
 pub mod Laws
 pub mod Away
 pub mod InStep

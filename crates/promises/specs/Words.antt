@@ -1,7 +1,7 @@
 -- The words of the sentences (`Sentences`): bits, bytes on the line, the CRCs by their polynomials, the bytes of the image at their addresses
 -- on the line, and the parts of the record. From the crates below come the record's types alone; numbers, lists and tests are the library's.
 -- With `Runs`, what a reader has to believe begins here. Assumes nothing.
-use Rattle.std.specs.Prelude.{Bool, true, false, ◌&&◌, ◌||◌, cond, ◌≡◌, ℕ, zero, suc, ◌+◌, ◌-◌, ◌*◌, ◌/◌, ◌%◌, ◌^◌, ◌<◌, eqb, leb, ltb, length, get_or, replicate}
+use Rattle.std.specs.Prelude.{Bool, true, false, ◌&&◌, ◌||◌, cond, ◌≡◌, ℕ, zero, suc, ◌+◌, ◌-◌, ◌*◌, ◌/◌, ◌%◌, ◌^◌, ◌<◌, eqb, leb, ltb, length, get_or, replicate, if◌then◌else◌}
 use Rattle.std.specs.Bool.{xor}
 use mathlib.Core.List.{List, [], ◌∷◌, ◌++◌, flat_map}
 use Rattle.bus.specs.declared.Hearing.{Hearing}
@@ -11,10 +11,6 @@ use Rattle.select.specs.declared.Choosing.{Choosing}
 use Rattle.select.specs.declared.Mode.{Mode}
 use Rattle.promises.specs.Runs.{State}
 pub mod Laws
-
-infix 10 if◌then◌else◌
-abbrev pub if◌then◌else◌ : {A : Type 0} → Bool → A → A → A
-if test then a else b = cond test a b
 
 -- one of these numbers
 unfoldable pub among : List ℕ → ℕ → Bool

@@ -1,9 +1,8 @@
 -- Document 01, "Choosing a tag on the line", with the overdrive commands of request #103: what each slot after a reset does, until the tag is
 -- selected or silent.
 -- A registration number is read low byte first, so bit i on the line is bit i of the number. Assumes nothing.
-use Rattle.std.specs.Prelude.{Bool, true, false, not, ◌&&◌, ◌||◌, ℕ, ◌+◌, ltb, eqb}
+use Rattle.std.specs.Prelude.{Bool, true, false, not, ◌&&◌, ◌||◌, ℕ, ◌+◌, ltb, eqb, if◌then◌else◌}
 use Rattle.std.specs.Bool.{beq}
-use Rattle.bits.specs.Choose.{if◌then◌else◌}
 use Rattle.bits.specs.Bits.{bit_of, shift_in}
 use Rattle.select.specs.declared.Choosing.{Choosing}
 use Rattle.select.specs.declared.Choosing.TheVariants.{Silent, Command, Reading, Matching, Giving, Complementing, Awaiting, Selected}

@@ -1,7 +1,6 @@
 -- The tag: a new tag, and one event (document 01, "Events and what they return"; request #103). Assumes nothing.
-use Rattle.std.specs.Prelude.{true, false, not, List, ℕ, eqb, ltb, length, set, replicate}
+use Rattle.std.specs.Prelude.{true, false, not, List, ℕ, eqb, ltb, length, set, replicate, if◌then◌else◌}
 use Rattle.answer.specs.declared.Answer.{Answer}
-use Rattle.bits.specs.Choose.{if◌then◌else◌}
 use Rattle.event.specs.Event.{slotted, reset_tag, short_tag, tick_tag}
 use Rattle.record.specs.declared.Tag.{Tag}
 use Rattle.record.specs.Record.{Outcome, good_number, good_code, tag_in_range, fresh_tag, accepted, refusal}

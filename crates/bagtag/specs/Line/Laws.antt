@@ -1,5 +1,5 @@
 -- Which way a call to a line goes, what its number is, and what a refusal leaves. Assumes nothing.
-use Rattle.std.specs.Prelude.{◌≡◌, ◌&&◌, List, ◌≢◌, ℕ, eqb, length}
+use Rattle.std.specs.Prelude.{◌≡◌, ◌&&◌, List, ◌≢◌, ℕ, eqb, length, if◌then◌else◌}
 use Rattle.std.proofs.Math.Path.{refl, ap}
 use Rattle.std.proofs.Common.{sym, ◌∙◌}
 use Rattle.std.proofs.Math.Bool.{Bool, true, false}
@@ -9,7 +9,7 @@ use borrow.Author.Tests.{eqb-true, eq-eqb, ne_eqb}
 use Rattle.answer.specs.Answer.{answer_number}
 use Rattle.answer.specs.Answer.Laws.{accepted_is}
 use Rattle.bits.specs.Bits.{digit}
-use Rattle.bits.specs.Choose.{if◌then◌else◌, either, choice}
+use Rattle.bits.specs.Choose.{either, choice}
 use Rattle.bits.specs.Each.{each}
 use Rattle.board.specs.declared.Board.{Board}
 use Rattle.board.specs.Board.{tag_at, is_count, Left, judged_by, judged, line_step, new_judged, empty_board, new_line}

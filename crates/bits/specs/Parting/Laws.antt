@@ -1,5 +1,5 @@
 -- Where two numbers part is the least bit in which they differ, and the trailing zeros of their XOR. Assumes nothing.
-use Rattle.std.specs.Prelude.{Bool, true, false, ◌≢◌, ◌≡◌, refl, ℕ, zero, suc, ◌+◌, ◌*◌, ◌/◌, ◌%◌, ◌^◌, ◌≤◌, ◌<◌}
+use Rattle.std.specs.Prelude.{Bool, true, false, ◌≢◌, ◌≡◌, refl, ℕ, zero, suc, ◌+◌, ◌*◌, ◌/◌, ◌%◌, ◌^◌, ◌≤◌, ◌<◌, if◌then◌else◌}
 use Rattle.std.specs.Bool.{beq}
 use Rattle.std.proofs.Common.{true≢false, sym, ap, ◌∙◌, le_of_suc-le-suc, not-suc-le-zero, arith}
 use Rattle.std.proofs.lemmas.Bool.{false≢true}
@@ -8,7 +8,6 @@ use Rattle.std.specs.Int.Bits.{bit_xor, xor_step, differ}
 use Rattle.std.specs.Int.Count.{under, count_trailing_zeros}
 use Rattle.bits.specs.Bits.{digit, bit_of}
 use Rattle.bits.specs.Bits.Laws.{bit_suc, digit_bit}
-use Rattle.bits.specs.Choose.{if◌then◌else◌}
 use Rattle.bits.specs.Parting.{parting_of}
 
 -- ---- the least bit in which they differ

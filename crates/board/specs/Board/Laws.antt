@@ -1,5 +1,5 @@
 -- An event of a line, by its cases, and a slot or a reset of one tag as the code has it. Assumes nothing.
-use Rattle.std.specs.Prelude.{Bool, true, false, not, ◌&&◌, ◌||◌, ◌≡◌, refl, List, ◌≢◌, eqb, leb, ltb, length, get_or}
+use Rattle.std.specs.Prelude.{Bool, true, false, not, ◌&&◌, ◌||◌, ◌≡◌, refl, List, ◌≢◌, eqb, leb, ltb, length, get_or, if◌then◌else◌}
 use Rattle.std.proofs.lemmas.Bool.{false≢true}
 use Rattle.std.proofs.Math.Path.{sym, ap}
 use Rattle.std.proofs.Common.{◌∙◌, zero-add, eqb-true, leb-true, leb-false, ltb-false, eq-eqb, ne_eqb, lt-ltb, le-ltb, le-leb}
@@ -11,7 +11,7 @@ use native.Mathlib.Omega.{arith}
 use Rattle.answer.specs.Answer.{answer_number}
 use Rattle.answer.specs.Answer.Laws.{accepted_is}
 use Rattle.answer.specs.declared.Answer.{Answer}
-use Rattle.bits.specs.Choose.{if◌then◌else◌, either}
+use Rattle.bits.specs.Choose.{either}
 use Rattle.bits.specs.Each.{each}
 use Rattle.event.specs.Event.{slotted, reset_tag, short_tag, tick_tag}
 use Rattle.record.specs.declared.Answered.{Answered}

@@ -1,6 +1,6 @@
 -- The hours in both forms, in plain numbers: which byte an hour has, in which order the bytes step, and what an hour that is not valid
 -- in its form becomes. Each rule of the table is one test that is computed at all its entries. Assumes nothing.
-use Rattle.std.specs.Prelude.{◌≡◌, refl, Bool, true, false, not, ◌&&◌, ◌||◌, [], ◌∷◌, ◌⊎◌, ℕ, ◌+◌, ◌*◌, ◌/◌, ◌%◌, ◌≤◌, ◌<◌, T, ltb, get_or}
+use Rattle.std.specs.Prelude.{◌≡◌, refl, Bool, true, false, not, ◌&&◌, ◌||◌, [], ◌∷◌, ◌⊎◌, ℕ, ◌+◌, ◌*◌, ◌/◌, ◌%◌, ◌≤◌, ◌<◌, T, ltb, get_or, if◌then◌else◌}
 use Rattle.std.proofs.Common.{sym, ap, ◌∙◌, inl, inr, ⊎_elim, arith, ltb→lt, lit<, ne_eqb}
 use Rattle.std.proofs.Math.Bool.{beq, or-true}
 use Rattle.std.proofs.lemmas.Bool.{false≢true}
@@ -10,7 +10,6 @@ use Rattle.std.proofs.Math.Dec.{eqb, eqb→eq}
 use Rattle.std.specs.Float.Ieee.Bits.{is_true}
 use Rattle.std.specs.Float.Ieee.Fits.{and_l, and_r}
 use Rattle.bits.specs.Bits.{digit, bit_of}
-use Rattle.bits.specs.Choose.{if◌then◌else◌}
 use Rattle.bits.specs.Each.{each, each_at}
 use Rattle.bits.specs.Tests.{beq_eq}
 use Rattle.calendar.specs.declared.Stepped.{Stepped}

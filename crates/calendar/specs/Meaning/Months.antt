@@ -1,9 +1,8 @@
 -- The date's last value is the month's length: one test over every month's byte, whatever the year. Assumes nothing.
-use Rattle.std.specs.Prelude.{◌≡◌, refl, Bool, true, false, not, ◌&&◌, ◌||◌, ℕ, ◌-◌, ◌/◌, ◌%◌, T, leb, eqb}
+use Rattle.std.specs.Prelude.{◌≡◌, refl, Bool, true, false, not, ◌&&◌, ◌||◌, ℕ, ◌-◌, ◌/◌, ◌%◌, T, leb, eqb, if◌then◌else◌}
 use Rattle.std.proofs.Math.Bool.{and-eq-true_iff}
 use Rattle.std.proofs.Common.{arith, eqb-true, leb-true}
 use Rattle.std.specs.Float.Ieee.Bits.{is_true}
-use Rattle.bits.specs.Choose.{if◌then◌else◌}
 use Rattle.bits.specs.Bits.{digit}
 use Rattle.bits.specs.Each.{each, each_at}
 use Rattle.calendar.specs.Calendar.{decimal, is_valid, is_leap, days_in}

@@ -1,9 +1,9 @@
 -- One second on: a valid clock stays valid, and its seconds go on by one, round the two centuries that CENT tells apart, field
 -- by field as the step carries. Assumes nothing.
-use Rattle.std.specs.Prelude.{◌≡◌, refl, ℕ, ◌+◌, ◌*◌, ◌%◌, ◌<◌}
+use Rattle.std.specs.Prelude.{◌≡◌, refl, ℕ, ◌+◌, ◌*◌, ◌%◌, ◌<◌, if◌then◌else◌}
 use Rattle.std.proofs.Math.Logic.{⊎_elim}
 use Rattle.std.proofs.Common.{arith}
-use Rattle.bits.specs.Choose.{if◌then◌else◌, either}
+use Rattle.bits.specs.Choose.{either}
 use Rattle.calendar.specs.declared.Clock.{Clock}
 use Rattle.calendar.specs.Calendar.{decimal, plus_one, carried, step_hours, next_day, next_second}
 use Rattle.calendar.specs.Meaning.{century, moment, cent_of, year_of, months_over, days_over, hour_of, seconds_of, Writes, WritesHour, Valid}

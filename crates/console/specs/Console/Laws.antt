@@ -1,12 +1,12 @@
 -- Laws of groups, of texts and of sessions. Assumes nothing.
-use Rattle.std.specs.Prelude.{Bool, false, List, [], ◌∷◌, ◌≡◌, ℕ, suc, ◌+◌, ◌-◌, ◌%◌, ◌≤◌, ◌<◌, min, eqb, get_or, set, take, drop}
+use Rattle.std.specs.Prelude.{Bool, false, List, [], ◌∷◌, ◌≡◌, ℕ, suc, ◌+◌, ◌-◌, ◌%◌, ◌≤◌, ◌<◌, min, eqb, get_or, set, take, drop, if◌then◌else◌}
 use Rattle.std.proofs.Math.Path.{refl}
 use Rattle.std.proofs.Common.{◌∙◌, add_assoc, zero-add, add-one, arith, eqb-true, eq-eqb, length-append, length-take, take-suc, length-take-le, get_or-take, get_or-drop, get_or-set_other, drop-drop}
 use Rattle.std.proofs.Math.Nat.{add-zero, div-eq-sub-div, div-eq_of_lt, mod-le}
 use Rattle.std.proofs.Math.ListN.{length, length-drop}
 use Rattle.std.proofs.lemmas.List.Edits.{sets}
 use Rattle.answer.specs.Answer.{refusal_text}
-use Rattle.bits.specs.Choose.{if◌then◌else◌, either}
+use Rattle.bits.specs.Choose.{either}
 use Rattle.bits.specs.Stores.{sets_join}
 use Rattle.console.specs.Console.{groups, groups_in, begun_in, answer_text, bit_text, Reply, Session, over, printing, played}
 

@@ -1,8 +1,7 @@
 -- What each part of a conversion leaves: every byte outside the runs that its law names, and every bit that is none of its
 -- flags. What lies apart from them is read as before by the laws of `Leaves`, where the tests compute. Assumes nothing.
-use Rattle.std.specs.Prelude.{Bool, true, false, List, [], ◌∷◌, ℕ, ◌+◌, ◌*◌, ◌/◌, ◌%◌, ltb, eqb, set}
+use Rattle.std.specs.Prelude.{Bool, true, false, List, [], ◌∷◌, ℕ, ◌+◌, ◌*◌, ◌/◌, ◌%◌, ltb, eqb, set, if◌then◌else◌}
 use Rattle.std.proofs.Common.{arith}
-use Rattle.bits.specs.Choose.{if◌then◌else◌}
 use Rattle.image.specs.Keeps.{Keeps, keeps_then, keeps_within}
 use Rattle.image.specs.Leaves.{Leaves, leaves_same, leaves_then, leaves_choice, leaves_wider, leaves_keeps, leaves_put_word, leaves_put_flag}
 use Rattle.image.specs.Registers.{tlfs, mission_samples, device_samples}

@@ -1,5 +1,5 @@
 -- What each part of a conversion puts is read back, in an image of 8,832 bytes. Assumes nothing.
-use Rattle.std.specs.Prelude.{◌≡◌, Bool, ◌||◌, ltb, T, length}
+use Rattle.std.specs.Prelude.{◌≡◌, Bool, ◌||◌, ltb, T, length, if◌then◌else◌}
 use Rattle.std.proofs.Math.Path.{refl, ap}
 use Rattle.std.proofs.Common.{◌∙◌, arith, length-set, get_or-set_same, get_or-set_other}
 use Rattle.std.proofs.Math.Bool.{true, false}
@@ -10,7 +10,7 @@ use Rattle.std.proofs.Math.Decide.{ℕ_discrete}
 use borrow.Author.Tests.{eq-eqb, ne_eqb, ltb-true, ltb-false}
 use Rattle.std.proofs.Math.Dec.{eqb}
 use Rattle.std.proofs.Math.ListN.{get_or, set}
-use Rattle.bits.specs.Choose.{if◌then◌else◌, choices, either}
+use Rattle.bits.specs.Choose.{choices, either}
 use Rattle.calendar.specs.declared.Clock.{Clock}
 use Rattle.image.specs.Fields.{word_at, put_flag, flag_at}
 use Rattle.image.specs.Fields.Laws.{word_put_word, word_lt, flag_put_flag}

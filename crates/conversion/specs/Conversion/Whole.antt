@@ -1,8 +1,8 @@
 -- An image of 8,832 bytes stays one: after every conversion and every step of the clock. Assumes nothing.
-use Rattle.std.specs.Prelude.{◌≡◌, Bool, true, false, List, ℕ, ◌<◌, ltb, eqb, length, set}
+use Rattle.std.specs.Prelude.{◌≡◌, Bool, true, false, List, ℕ, ◌<◌, ltb, eqb, length, set, if◌then◌else◌}
 use Rattle.std.proofs.Common.{◌∙◌, arith, length-set}
 use Rattle.bits.specs.Bytes.{Bytes, bytes_set}
-use Rattle.bits.specs.Choose.{if◌then◌else◌, choice}
+use Rattle.bits.specs.Choose.{choice}
 use Rattle.calendar.specs.Calendar.Named.{Named, named_next}
 use Rattle.calendar.specs.declared.Clock.{Clock}
 use Rattle.image.specs.Fields.{put_word, put_flag}

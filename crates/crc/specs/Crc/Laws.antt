@@ -1,5 +1,5 @@
 -- What a CRC keeps and leaves, once for every width and polynomial; below, what that says of CRC-16 and CRC-8. Assumes nothing.
-use Rattle.std.specs.Prelude.{◌≡◌, refl, ◌↔◌, ◌⊎◌, Bool, true, false, eqb, length, get_or, drop}
+use Rattle.std.specs.Prelude.{◌≡◌, refl, ◌↔◌, ◌⊎◌, Bool, true, false, eqb, length, get_or, drop, if◌then◌else◌}
 use Rattle.std.proofs.Math.Path.{sym}
 use Rattle.std.proofs.Common.{ap, ◌∙◌, inl, inr, ⊎_elim, mod-lt, div-one, lt_of_lt_of_le, zero-mul, not-suc-le-zero, le_of_suc-le-suc, add-one, eqb-true, eq-eqb, drop_of_length-le, pow_pos, pow_mono, drop-cons}
 use Rattle.std.proofs.Math.Bool.{xor}
@@ -10,7 +10,7 @@ use native.Mathlib.Omega.{arith}
 use Rattle.std.specs.Int.Bits.{bit_xor, xor_zero_r}
 use Rattle.std.proofs.lemmas.Nat.{xor_lt, xor_shr, xor_mod, mod-pow-add}
 use Rattle.std.proofs.Math.Pow.{split}
-use Rattle.bits.specs.Choose.{if◌then◌else◌, choice}
+use Rattle.bits.specs.Choose.{choice}
 use Rattle.bits.specs.Bits.{digit, bit_of, bits_of}
 use Rattle.bits.specs.Bits.Laws.{digit_bit, digit_one, bit_low, bits_add, bits_mod}
 use Rattle.crc.specs.Crc.{taps, crc_bit, crc_bits, crc_byte, crc_run, bytes_of, mask16, crc16_run, sent_low, sent_high, mask8, crc8_of, good_crc}

@@ -1,13 +1,12 @@
 -- A CRC is linear, for every width and polynomial: the bits that fall out of a register change what comes after in the same way whatever
 -- stays in it. So k bits at once are an entry of a table, by the k bits that fall out, and the rest moved down. Assumes nothing.
-use Rattle.std.specs.Prelude.{◌≡◌, refl, Bool, true, false, List, [], ◌∷◌, ℕ, zero, suc, ◌+◌, ◌*◌, ◌/◌, ◌%◌, ◌^◌, ◌<◌, length}
+use Rattle.std.specs.Prelude.{◌≡◌, refl, Bool, true, false, List, [], ◌∷◌, ℕ, zero, suc, ◌+◌, ◌*◌, ◌/◌, ◌%◌, ◌^◌, ◌<◌, length, if◌then◌else◌}
 use Rattle.std.proofs.Common.{sym, ap, ◌∙◌, div-add-mod', mod-lt, mod-eq_of_lt, zero-mul, zero-add, arith, pow_pos}
 use Rattle.std.proofs.Math.Bool.{xor}
 use Rattle.std.proofs.Math.Nat.{zero-div}
 use Rattle.std.proofs.Math.Arith.{bin_ind, digits_div, digits_mod}
 use Rattle.std.specs.Int.Bits.{bit_xor, xor_zero_l, xor_zero_r, xor_self}
 use Rattle.std.proofs.lemmas.Nat.{xor_comm, xor_shr, xor_mod, xor_block}
-use Rattle.bits.specs.Choose.{if◌then◌else◌}
 use Rattle.bits.specs.Bits.{bit_of, bits_of}
 use Rattle.bits.specs.Bits.Laws.{bits_add, bits_mod}
 use Rattle.crc.specs.Crc.{crc_bit, crc_bits, crc_byte, crc_run}

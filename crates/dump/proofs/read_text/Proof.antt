@@ -1,5 +1,6 @@
 -- `dump::read_text` meets its contract. The loop's invariant: the bytes so far are the text's, and all its pairs are digits
 -- exactly if those that are left are. The measure is the number of pairs left. Assumes nothing.
+use Rattle.std.specs.Prelude.{if◌then◌else◌}
 use mathlib.Core.Path.{◌≡◌, refl, sym, ◌∙◌}
 use mathlib.Core.Bool.{false, ◌&&◌, not}
 use mathlib.Core.List.{List}
@@ -13,7 +14,6 @@ use lib.Seq.{sets}
 use Rattle.answer.specs.Answer.{answer_number}
 use Rattle.answer.specs.declared.Answer.{Answer}
 use Rattle.answer.specs.declared.Answer.TheVariants.{Accepted, DumpForm, LinePage, LineCrc}
-use Rattle.bits.specs.Choose.{if◌then◌else◌}
 use Rattle.hexadecimal.specs.Hex.{all_digits, pair_at}
 use Rattle.hexadecimal.specs.Hex.Text.{read_bad, read_byte, read_more, read_all, read_done}
 use Rattle.hexadecimal.specs.declared.Pair.TheVariants.{Byte, Bad}

@@ -1,5 +1,5 @@
 -- And back: a dump that is accepted is the text of its bytes, so two of them with the same bytes are the same. Assumes nothing.
-use Rattle.std.specs.Prelude.{◌≡◌, refl, Bool, true, false, ◌&&◌, not, ℕ, zero, suc, ◌+◌, ◌*◌, ◌/◌, ◌%◌, ◌<◌, take}
+use Rattle.std.specs.Prelude.{◌≡◌, refl, Bool, true, false, ◌&&◌, not, ℕ, zero, suc, ◌+◌, ◌*◌, ◌/◌, ◌%◌, ◌<◌, take, if◌then◌else◌}
 use Rattle.std.proofs.Common.{sym, ap, ◌∙◌, add-zero, add-suc, suc-add, length-take, length-drop, take-append-drop, take-add, drop-drop, ext_get_or}
 use Rattle.std.proofs.Math.Path.{fun_ext}
 use Rattle.std.proofs.Math.Bool.{and-eq-true_iff}
@@ -13,7 +13,6 @@ use Rattle.std.proofs.Math.Seq.{drop-cons, take_all}
 use Rattle.answer.specs.Answer.{answer_number}
 use Rattle.answer.specs.declared.Answer.{Answer}
 use Rattle.answer.specs.declared.Answer.TheVariants.{Accepted, DumpForm, LineCrc, LinePage}
-use Rattle.bits.specs.Choose.{if◌then◌else◌}
 use Rattle.crc.specs.Crc.{sent_low, sent_high}
 use Rattle.hexadecimal.specs.Hex.{hex_text, all_digits}
 use Rattle.hexadecimal.specs.Hex.Text.{text_bytes, length_bytes, bytes_small}

@@ -1,11 +1,11 @@
 -- The data of all lines, and the bytes among them: they are those of the dump's text. Assumes nothing.
-use Rattle.std.specs.Prelude.{◌≡◌, refl, Bool, true, false, ◌&&◌, List, ℕ, zero, suc, ◌+◌, ◌-◌, ◌*◌, ◌≤◌, ◌<◌, ltb, leb, length, get_or, drop}
+use Rattle.std.specs.Prelude.{◌≡◌, refl, Bool, true, false, ◌&&◌, List, ℕ, zero, suc, ◌+◌, ◌-◌, ◌*◌, ◌≤◌, ◌<◌, ltb, leb, length, get_or, drop, if◌then◌else◌}
 use Rattle.std.proofs.Math.Path.{fun_ext}
 use Rattle.std.proofs.Math.Bool.{and-eq-true_iff}
 use Rattle.std.proofs.Common.{add-zero, zero-add, add-suc, suc-add, add-one, arith, leb-true, ltb-true, length-append, length-take, length-drop, get_or-append-add}
 use Rattle.std.proofs.Math.ListN.{get_or-append}
 use Rattle.std.proofs.lemmas.List.Edits.{sets}
-use Rattle.bits.specs.Choose.{if◌then◌else◌, either}
+use Rattle.bits.specs.Choose.{either}
 use Rattle.bits.specs.Stores.{sets_join}
 use Rattle.hexadecimal.specs.Hex.Text.{length_bytes}
 use Rattle.dump.specs.Lines.{line_at, bytes_in, data_in, data_of, dumped_at, data_lines, memory_at}

@@ -1,9 +1,9 @@
 -- What demand 3 of the order rests on: two tags whose exchanges are equal go on alike as long as no password field lets them
 -- pass, and do nothing but Forced Conversions. And what either reset leaves, and what a slot sees of the speed. Assumes nothing.
-use Rattle.std.specs.Prelude.{◌≡◌, refl, Bool, true, false, ◌||◌, List, ◌∷◌, ℕ, eqb}
+use Rattle.std.specs.Prelude.{◌≡◌, refl, Bool, true, false, ◌||◌, List, ◌∷◌, ℕ, eqb, if◌then◌else◌}
 use Rattle.std.proofs.Common.{sym, ap, ◌∙◌}
 use Rattle.std.proofs.Math.Bool.{and-eq-true_iff}
-use Rattle.bits.specs.Choose.{if◌then◌else◌, either, choices}
+use Rattle.bits.specs.Choose.{either, choices}
 use Rattle.bus.specs.declared.Moved.{Moved}
 use Rattle.bus.specs.declared.Question.{Question}
 use Rattle.memory.specs.Memory as memory

@@ -1,6 +1,6 @@
 -- What is put into a field is read back, and a put leaves every field apart from it: once for each kind of field, over
 -- place and size. For two fields whose places are numerals, `apart` computes, and `tt` closes it. Assumes nothing.
-use Rattle.std.specs.Prelude.{◌≡◌, refl, Bool, true, false, not, ◌&&◌, ◌||◌, List, ◌≢◌, ◌⊎◌, ℕ, zero, suc, ◌+◌, ◌-◌, ◌*◌, ◌/◌, ◌%◌, ◌^◌, ◌≤◌, ◌<◌, T, leb, ltb, eqb, length, get_or, set}
+use Rattle.std.specs.Prelude.{◌≡◌, refl, Bool, true, false, not, ◌&&◌, ◌||◌, List, ◌≢◌, ◌⊎◌, ℕ, zero, suc, ◌+◌, ◌-◌, ◌*◌, ◌/◌, ◌%◌, ◌^◌, ◌≤◌, ◌<◌, T, leb, ltb, eqb, length, get_or, set, if◌then◌else◌}
 use Rattle.std.proofs.Common.{sym, ◌∙◌, subst, inl, inr, ⊎_elim, pow-suc, arith, lt-ltb, ltb-true, eq-eqb, ne_eqb, T_not, leb→le, le→leb, ltb→lt, length-set, get_or-set_same, get_or-set_other}
 use Rattle.std.specs.Bool.{beq}
 use Rattle.std.proofs.Math.Logic.{dite}
@@ -15,7 +15,7 @@ use Rattle.std.proofs.Math.Pow.{pow-lt}
 use Rattle.std.proofs.Math.Seq.{set_out}
 use Rattle.bits.specs.Bits.{digit, bit_of}
 use Rattle.bits.specs.Bytes.{Bytes, bytes_set, blank, byte_blank}
-use Rattle.bits.specs.Choose.{if◌then◌else◌, either, choice}
+use Rattle.bits.specs.Choose.{either, choice}
 use Rattle.bits.specs.Tests.{or_cases, or_of, beq_eq}
 use Rattle.bits.specs.Each.{each_pair, each_pair_at}
 use Rattle.image.specs.Fields.{word_at, put_word, flag_at, with_bit, put_flag, apart}

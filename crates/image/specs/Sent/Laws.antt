@@ -1,5 +1,5 @@
 -- What is sent at an address, region by region, and what it depends on. Assumes nothing.
-use Rattle.std.specs.Prelude.{◌≡◌, Bool, true, false, List, ◌≢◌, ℕ, ◌+◌, ◌-◌, ◌≤◌, ◌<◌, eqb, get_or}
+use Rattle.std.specs.Prelude.{◌≡◌, Bool, true, false, List, ◌≢◌, ℕ, ◌+◌, ◌-◌, ◌≤◌, ◌<◌, eqb, get_or, if◌then◌else◌}
 use Rattle.std.proofs.Common.{sym, ap, ◌∙◌, mod-eq_of_lt, arith, ne_eqb}
 use Rattle.std.proofs.Math.Bool.{and-true, or-false}
 use Rattle.std.specs.Int.Bits.{bit_and, bit_or, and_zero_r, or_zero_r}
@@ -7,7 +7,6 @@ use Rattle.std.proofs.lemmas.Nat.{and_comm, and_mask, and_le_r, or_lt}
 use Rattle.bits.specs.Bits.{bit_of}
 use Rattle.bits.specs.Bits.Laws.{bit_past}
 use Rattle.bits.specs.Bytes.{Bytes}
-use Rattle.bits.specs.Choose.{if◌then◌else◌}
 use Rattle.image.specs.Fields.{flag_at}
 use Rattle.image.specs.Fields.Laws.{bit_and_lem, bit_or_lem}
 use Rattle.image.specs.Map.{region_at, index_of, byte_in}

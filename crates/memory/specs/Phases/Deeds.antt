@@ -1,8 +1,8 @@
 -- What a slot does: nothing but in the slots of a command's last bit, and without a password nothing but a Forced Conversion.
 -- Assumes nothing.
-use Rattle.std.specs.Prelude.{◌≡◌, refl, Bool, true, false, ℕ, ◌≤◌, eqb, ltb}
+use Rattle.std.specs.Prelude.{◌≡◌, refl, Bool, true, false, ℕ, ◌≤◌, eqb, ltb, if◌then◌else◌}
 use Rattle.std.proofs.Common.{sym, ap, ◌∙◌, true≢false, ltb-false, eqb-true}
-use Rattle.bits.specs.Choose.{if◌then◌else◌, choice, choices}
+use Rattle.bits.specs.Choose.{choice, choices}
 use Rattle.bits.specs.Bits.{shift_in}
 use Rattle.memory.specs.Phases.Laws.{copies_not}
 use Rattle.bus.specs.declared.Addressed.{Addressed}

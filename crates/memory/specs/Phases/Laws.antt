@@ -1,9 +1,9 @@
 -- Without a password that is let pass a tag asks for no byte of memory, and does nothing but Forced Conversions. Assumes nothing.
-use Rattle.std.specs.Prelude.{◌≡◌, refl, Bool, true, false, ◌&&◌, ℕ, ◌+◌, ◌%◌, eqb, ltb}
+use Rattle.std.specs.Prelude.{◌≡◌, refl, Bool, true, false, ◌&&◌, ℕ, ◌+◌, ◌%◌, eqb, ltb, if◌then◌else◌}
 use Rattle.std.proofs.Common.{sym, ap, ◌∙◌}
 use Rattle.std.proofs.Math.Bool.{and-false}
 use Rattle.bits.specs.Bits.Laws.{digit_same}
-use Rattle.bits.specs.Choose.{if◌then◌else◌, choice, choices}
+use Rattle.bits.specs.Choose.{choice, choices}
 use Rattle.bits.specs.Bits.{digit, shift_in}
 use Rattle.bits.specs.Tests.{neither}
 use Rattle.memory.specs.Memory.Laws.{command_cases}

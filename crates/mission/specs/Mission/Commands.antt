@@ -1,10 +1,10 @@
 -- What Clear, Start, Stop and Forced Conversion do, field by field, in an image of 8,832 bytes; what each leaves is in
 -- the frames. Assumes nothing.
-use Rattle.std.specs.Prelude.{◌≡◌, refl, Bool, true, false, not, ◌&&◌, List, ℕ, ◌+◌, ◌*◌, ◌%◌, min, eqb}
+use Rattle.std.specs.Prelude.{◌≡◌, refl, Bool, true, false, not, ◌&&◌, List, ℕ, ◌+◌, ◌*◌, ◌%◌, min, eqb, if◌then◌else◌}
 use Rattle.std.proofs.Common.{◌∙◌, arith}
 use Rattle.std.proofs.Math.Bool.{and-eq-true_iff}
 use Rattle.std.proofs.lemmas.Bool.{not-true, eqb-false}
-use Rattle.bits.specs.Choose.{if◌then◌else◌, choices}
+use Rattle.bits.specs.Choose.{choices}
 use Rattle.image.specs.Fields.{word_at}
 use Rattle.image.specs.Fields.Laws.{word_put_word, flag_put_flag}
 use Rattle.image.specs.Leaves.{leaves_put_word, leaves_put_flag, word_left}

@@ -1,9 +1,9 @@
 -- What one tick does, case by case: no mission, the delay, between conversion times, and a conversion time.
 -- Assumes nothing.
-use Rattle.std.specs.Prelude.{◌≡◌, refl, Bool, true, false, not, ◌&&◌, List, [], ◌∷◌, ℕ, ◌-◌, ◌%◌, ◌≤◌, eqb, length}
+use Rattle.std.specs.Prelude.{◌≡◌, refl, Bool, true, false, not, ◌&&◌, List, [], ◌∷◌, ℕ, ◌-◌, ◌%◌, ◌≤◌, eqb, length, if◌then◌else◌}
 use Rattle.std.proofs.Common.{sym, ◌∙◌, arith}
 use Rattle.std.proofs.lemmas.Bool.{false≢true}
-use Rattle.bits.specs.Choose.{if◌then◌else◌, choices}
+use Rattle.bits.specs.Choose.{choices}
 use Rattle.calendar.specs.Calendar.{next_second}
 use Rattle.calendar.specs.Calendar.Named.{named_next}
 use Rattle.calendar.specs.declared.Clock.{Clock}

@@ -1,7 +1,7 @@
 -- The conversion times of a mission, by the number of its ticks: "with delay D the first conversion is on tick 60 × D + 1, then
 -- every period" (document 01, "A mission"). Delay register and counters say after each tick which number it had.
 -- Assumes nothing.
-use Rattle.std.specs.Prelude.{◌≡◌, refl, Bool, true, not, ◌&&◌, List, eqb, leb, ltb, T}
+use Rattle.std.specs.Prelude.{◌≡◌, refl, Bool, true, not, ◌&&◌, List, eqb, leb, ltb, T, if◌then◌else◌}
 use Rattle.std.proofs.Common.{sym, ◌∙◌, mod-eq_of_lt}
 use Rattle.std.proofs.Math.Path.{ap}
 use Rattle.std.proofs.Math.Bool.{not-not, and-true}
@@ -11,7 +11,7 @@ use Rattle.std.proofs.Math.Nat.{mod-lt, mod_self, suc-mod, sub-zero, zero-mod}
 use Rattle.std.proofs.Math.Decide.{ℕ_discrete, dec_lt}
 use native.Mathlib.Omega.{arith}
 use borrow.Author.Tests.{ne_eqb, lt-leb, le-leb, lt-ltb, le-ltb}
-use Rattle.bits.specs.Choose.{if◌then◌else◌, either, choice}
+use Rattle.bits.specs.Choose.{either, choice}
 use Rattle.image.specs.Keeps.{Run, free}
 use Rattle.image.specs.Leaves.{word_left, Flag, spares, touched, Leaves}
 use Rattle.image.specs.Registers.{mip, rate, delay}

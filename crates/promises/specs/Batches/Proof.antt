@@ -1,11 +1,10 @@
 -- What holds of every list of events. Assumes nothing.
-use Rattle.std.specs.Prelude.{◌≡◌, refl, Bool, true, false, List, ℕ, eqb, ltb, length}
+use Rattle.std.specs.Prelude.{◌≡◌, refl, Bool, true, false, List, ℕ, eqb, ltb, length, if◌then◌else◌}
 use Rattle.std.proofs.Common.{sym, subst, ◌∙◌, arith, eq-eqb}
 use Rattle.std.proofs.Math.Logic.{dite}
 use Rattle.std.proofs.Math.Decide.{dec_le}
 use Rattle.batch.specs.Batch.{Listed, listed}
 use Rattle.batch.specs.Batch.Laws.{list_few, list_taken}
-use Rattle.bits.specs.Choose.{if◌then◌else◌}
 use Rattle.promises.specs.Batches.{events_of, asked_number, first_of, list_number, Leaves, Batches}
 use Rattle.promises.specs.Batches.Words.{course_run, list_leaves}
 use Rattle.promises.specs.Batches.Cuts.{join, cut, after_refused, reply_spared, reply_missing}

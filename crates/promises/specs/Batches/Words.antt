@@ -1,5 +1,5 @@
 -- A list's words are events: what a list leaves is what their run leaves. Assumes nothing.
-use Rattle.std.specs.Prelude.{◌≡◌, true, false, not, ◌≢◌, ℕ, zero, suc, ◌-◌, ◌≤◌, ◌<◌, eqb}
+use Rattle.std.specs.Prelude.{◌≡◌, true, false, not, ◌≢◌, ℕ, zero, suc, ◌-◌, ◌≤◌, ◌<◌, eqb, if◌then◌else◌}
 use Rattle.std.proofs.Math.Path.{refl}
 use Rattle.std.proofs.Common.{sym, ap, ◌∙◌, true≢false, arith}
 use mathlib.Core.List.{List, [], ◌∷◌, map}
@@ -17,7 +17,7 @@ use Rattle.batch.specs.Batch as batch
 use Rattle.batch.specs.Batch.Laws.{list_cases}
 use Rattle.batch.specs.Batch.Cuts.{course_cases}
 use Rattle.bits.specs.Bits.{digit}
-use Rattle.bits.specs.Choose.{if◌then◌else◌, either}
+use Rattle.bits.specs.Choose.{either}
 use Rattle.record.specs.declared.Tag.{Tag}
 use Rattle.tag.specs.Tag.{step}
 use Rattle.promises.specs.Batches.{is_refused, event_of, events_of, asked_number, first_of, Leaves}

@@ -1,5 +1,5 @@
 -- One call is one event, or is refused; calls one after the other are a run. Assumes nothing.
-use Rattle.std.specs.Prelude.{◌≡◌, Bool, true, false, ◌&&◌, List, [], ◌∷◌, ◌++◌, map, ℕ, suc, ◌≤◌, ◌<◌, eqb, leb, ℤ, length, get_or, take, drop}
+use Rattle.std.specs.Prelude.{◌≡◌, Bool, true, false, ◌&&◌, List, [], ◌∷◌, ◌++◌, map, ℕ, suc, ◌≤◌, ◌<◌, eqb, leb, ℤ, length, get_or, take, drop, if◌then◌else◌}
 use Rattle.std.proofs.Math.Path.{refl, ap, subst}
 use Rattle.std.proofs.Common.{sym, ◌∙◌, arith, eqb-true, leb-true, leb-false, lt-ltb, take_at}
 use Rattle.std.proofs.Math.Logic.{dite}
@@ -9,7 +9,6 @@ use Rattle.std.proofs.lemmas.List.{length-map}
 use Rattle.batch.specs.Batch.{Listed}
 use Rattle.bits.specs.Bits.{digit}
 use Rattle.bits.specs.Bits.Laws.{digit_same}
-use Rattle.bits.specs.Choose.{if◌then◌else◌}
 use Rattle.record.specs.declared.Answered.{Answered}
 use Rattle.record.specs.Record.{Outcome}
 use Rattle.tag.specs.Tag.{event_of, step}

@@ -1,10 +1,10 @@
 -- What the tag reads off the image that Start finds is what the history reads off the settings. Assumes nothing.
-use Rattle.std.specs.Prelude.{◌≡◌, ◌&&◌, List, ℕ, ◌+◌, ◌*◌, ◌/◌, ◌%◌, ◌≤◌, ◌<◌, min}
+use Rattle.std.specs.Prelude.{◌≡◌, ◌&&◌, List, ℕ, ◌+◌, ◌*◌, ◌/◌, ◌%◌, ◌≤◌, ◌<◌, min, if◌then◌else◌}
 use Rattle.std.proofs.Math.Path.{refl}
 use Rattle.std.proofs.Common.{sym, mul_comm, arith}
 use Rattle.std.proofs.Math.Dec.{eqb}
 use Rattle.bits.specs.Bits.{digit, bit_of}
-use Rattle.bits.specs.Choose.{if◌then◌else◌, choice}
+use Rattle.bits.specs.Choose.{choice}
 use Rattle.image.specs.Fields.{word_at, flag_at}
 use Rattle.image.specs.Registers
 use Rattle.conversion.specs.Clock.{clock_of}

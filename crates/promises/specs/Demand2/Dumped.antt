@@ -1,5 +1,5 @@
 -- What the dock reads in the dump of an image: the image's own registers and log. Assumes nothing.
-use Rattle.std.specs.Prelude.{◌≡◌, Bool, List, [], ◌∷◌, ℕ, ◌+◌, ◌-◌, ◌*◌, ◌/◌, ◌%◌, ◌≤◌, ◌<◌}
+use Rattle.std.specs.Prelude.{◌≡◌, Bool, List, [], ◌∷◌, ℕ, ◌+◌, ◌-◌, ◌*◌, ◌/◌, ◌%◌, ◌≤◌, ◌<◌, if◌then◌else◌}
 use Rattle.std.proofs.Math.Path.{refl}
 use Rattle.std.proofs.Common.{◌∙◌}
 use Rattle.std.proofs.Math.Bool.{true, false}
@@ -7,7 +7,6 @@ use native.Mathlib.Omega.{arith}
 use Rattle.std.specs.Int.Bits.{bit_and, and_mask, or_zero_r}
 use Rattle.std.proofs.Math.ListN.{get_or}
 use Rattle.bits.specs.Bits.{bit_of}
-use Rattle.bits.specs.Choose.{if◌then◌else◌}
 use Rattle.calendar.specs.declared.Clock.{Clock}
 use Rattle.dock.specs.Dumped.{Agree}
 use Rattle.dock.specs.Entries

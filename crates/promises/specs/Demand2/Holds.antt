@@ -1,9 +1,8 @@
 -- What a mission's image holds after some entries, and what else holds while the mission runs. `start` is the image that Start
 -- left. Assumes nothing.
-use Rattle.std.specs.Prelude.{◌≡◌, true, false, not, ◌&&◌, ◌||◌, List, ◌++◌, ℕ, ◌+◌, ◌-◌, ◌*◌, ◌/◌, ◌%◌, ◌≤◌, ◌<◌, min, T, leb, length, get_or}
+use Rattle.std.specs.Prelude.{◌≡◌, true, false, not, ◌&&◌, ◌||◌, List, ◌++◌, ℕ, ◌+◌, ◌-◌, ◌*◌, ◌/◌, ◌%◌, ◌≤◌, ◌<◌, min, T, leb, length, get_or, if◌then◌else◌}
 use Rattle.std.proofs.Common.{◌∙◌, mod-lt, arith}
 use Rattle.bits.specs.Bits.{digit}
-use Rattle.bits.specs.Choose.{if◌then◌else◌}
 use Rattle.calendar.specs.Calendar.{clock_after}
 use Rattle.image.specs.Fields.{word_at}
 use Rattle.image.specs.Keeps.{Run, free}

@@ -1,11 +1,10 @@
 -- What the dock lists of an image that holds a mission's entries. Assumes nothing.
-use Rattle.std.specs.Prelude.{◌≡◌, refl, Bool, true, false, not, ◌&&◌, ◌||◌, List, ℕ, ◌+◌, ◌-◌, ◌≤◌, ◌<◌, min, eqb, ltb, ℤ, pos, length, get_or}
+use Rattle.std.specs.Prelude.{◌≡◌, refl, Bool, true, false, not, ◌&&◌, ◌||◌, List, ℕ, ◌+◌, ◌-◌, ◌≤◌, ◌<◌, min, eqb, ltb, ℤ, pos, length, get_or, if◌then◌else◌}
 use Rattle.std.proofs.Math.Path.{sym}
 use Rattle.std.proofs.Common.{ap, ◌∙◌, arith, eqb-true, le-ltb}
 use Rattle.std.proofs.lemmas.Bool.{false≢true, eqb-false}
 use Rattle.answer.specs.declared.Answer.TheVariants.{Accepted, Places}
 use Rattle.bits.specs.Bits.{digit, bit_of}
-use Rattle.bits.specs.Choose.{if◌then◌else◌}
 use Rattle.dock.specs.Dumped.{Agree}
 use Rattle.dock.specs.Entries
 use Rattle.dock.specs.Listing.{is_known, is_overfull, is_unflagged, cannot_be, listed, refused, listing_of, temperatures_of}

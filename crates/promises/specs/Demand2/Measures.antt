@@ -1,5 +1,5 @@
 -- A tick of a running mission is one more tick of its history, in what its conversions measure too. Assumes nothing.
-use Rattle.std.specs.Prelude.{◌≡◌, refl, Bool, true, false, not, ◌&&◌, ◌||◌, ℕ, ◌+◌, ◌*◌, ◌/◌, ◌%◌, ◌≤◌, leb}
+use Rattle.std.specs.Prelude.{◌≡◌, refl, Bool, true, false, not, ◌&&◌, ◌||◌, ℕ, ◌+◌, ◌*◌, ◌/◌, ◌%◌, ◌≤◌, leb, if◌then◌else◌}
 use Rattle.std.proofs.Math.Path.{ap}
 use Rattle.std.proofs.Common.{◌∙◌}
 use Rattle.std.proofs.Math.Bool.{and-eq-true_iff}
@@ -9,7 +9,6 @@ use Rattle.std.proofs.lemmas.Bool.{not-true}
 use Rattle.std.proofs.Math.ListN.{length, length-append}
 use Rattle.std.proofs.Math.Seq.{get_or-append_seam}
 use Rattle.bits.specs.Bits.{bit_of}
-use Rattle.bits.specs.Choose.{if◌then◌else◌}
 use Rattle.image.specs.Fields.{flag_at}
 use Rattle.image.specs.Registers
 use Rattle.conversion.specs.Conversion as conversion

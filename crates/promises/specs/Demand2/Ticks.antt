@@ -1,5 +1,5 @@
 -- A tick of a running mission is one more tick of its history. Assumes nothing.
-use Rattle.std.specs.Prelude.{◌≡◌, Bool, true, ◌&&◌, List, [], ◌∷◌, ◌++◌, ℕ, ◌+◌, ◌*◌, ◌/◌, ◌%◌, ◌≤◌, ◌<◌, eqb, leb, get_or}
+use Rattle.std.specs.Prelude.{◌≡◌, Bool, true, ◌&&◌, List, [], ◌∷◌, ◌++◌, ℕ, ◌+◌, ◌*◌, ◌/◌, ◌%◌, ◌≤◌, ◌<◌, eqb, leb, get_or, if◌then◌else◌}
 use Rattle.std.proofs.Math.Path.{refl, sym}
 use Rattle.std.proofs.Common.{◌∙◌, append-nil, mod-lt, arith}
 use Rattle.std.proofs.Math.Bool.{false, not, and-false}
@@ -9,7 +9,6 @@ use Rattle.std.proofs.Math.Numerals.{add-one}
 use borrow.Author.Tests.{eq-eqb, ne_eqb}
 use Rattle.std.proofs.Math.ListN.{length, length-append, get_or-append}
 use Rattle.std.proofs.Math.Seq.{get_or-append_seam}
-use Rattle.bits.specs.Choose.{if◌then◌else◌}
 use Rattle.calendar.specs.Calendar.{next_second, clock_after}
 use Rattle.image.specs.Registers
 use Rattle.conversion.specs.Clock.{clock_of, clocked}

@@ -1,11 +1,11 @@
 -- One slot of a tag with checking on: what it asks, what is answered where a field carries no password, and what it does. Assumes nothing.
-use Rattle.std.specs.Prelude.{◌≡◌, Bool, true, List, ◌≢◌, ℕ, ◌<◌, eqb, ltb}
+use Rattle.std.specs.Prelude.{◌≡◌, Bool, true, List, ◌≢◌, ℕ, ◌<◌, eqb, ltb, if◌then◌else◌}
 use Rattle.std.proofs.Math.Path.{refl}
 use Rattle.std.proofs.Common.{◌∙◌, arith, ltb-true, ltb-false}
 use Rattle.std.proofs.Math.Bool.{false, and-eq-true_iff}
 use Rattle.std.proofs.lemmas.Bool.{false≢true}
 use Rattle.bits.specs.Bits.{shift_in}
-use Rattle.bits.specs.Choose.{if◌then◌else◌, either}
+use Rattle.bits.specs.Choose.{either}
 use Rattle.exchange.specs.Exchange.Laws.{parts}
 use Rattle.exchange.specs.declared.Exchange.{Exchange}
 use Rattle.exchange.specs.Exchange as exchange

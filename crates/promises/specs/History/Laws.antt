@@ -1,9 +1,9 @@
 -- One more tick is one more step of the history. Assumes nothing.
-use Rattle.std.specs.Prelude.{◌≡◌, refl, Bool, true, false, not, ◌&&◌, ◌||◌, List, [], ◌∷◌, ◌++◌, ℕ, zero, suc, ◌+◌, ◌≤◌, ◌<◌, min, eqb, leb, length, take, drop}
+use Rattle.std.specs.Prelude.{◌≡◌, refl, Bool, true, false, not, ◌&&◌, ◌||◌, List, [], ◌∷◌, ◌++◌, ℕ, zero, suc, ◌+◌, ◌≤◌, ◌<◌, min, eqb, leb, length, take, drop, if◌then◌else◌}
 use Rattle.std.proofs.Common.{sym, ap, ◌∙◌, append-nil, zero-add, suc-add, add-suc, not-suc-le-zero, arith, le-leb, leb-true, leb-false, ne_eqb, length-append, length-take, take_all, length-take-le}
 use Rattle.std.proofs.lemmas.List.{take-append-le}
 use Rattle.bits.specs.Bits.{digit}
-use Rattle.bits.specs.Choose.{if◌then◌else◌, choice}
+use Rattle.bits.specs.Choose.{choice}
 use Rattle.promises.specs.History.{Settings, Conversion, places, is_time, alarms, conversions_from, from_alarm, to_log, most, history, uncounted, clock_at, stamp}
 use Rattle.promises.specs.Sentences.Clock.{seconds_on}
 

@@ -1,9 +1,8 @@
 -- One more tick's reading, as it adds to the conversions that are made: those that an alarm start waits through, and the entries. Assumes
 -- nothing.
-use Rattle.std.specs.Prelude.{◌≡◌, refl, Bool, true, false, not, ◌&&◌, ◌||◌, List, [], ◌∷◌, ◌++◌, ℕ, ◌+◌, leb, length}
+use Rattle.std.specs.Prelude.{◌≡◌, refl, Bool, true, false, not, ◌&&◌, ◌||◌, List, [], ◌∷◌, ◌++◌, ℕ, ◌+◌, leb, length, if◌then◌else◌}
 use Rattle.std.proofs.Common.{sym, ap, ◌∙◌, append_assoc, append-nil, arith, leb-true, le-leb, length-append}
 use Rattle.std.proofs.lemmas.Bool.{false≢true, lt-leb}
-use Rattle.bits.specs.Choose.{if◌then◌else◌}
 use Rattle.promises.specs.History.{Settings, Conversion, is_time, alarms, conversions_from, from_alarm, to_log, most, history, before_alarm, waited, made, some_of}
 use Rattle.promises.specs.History.Laws.{is_none, none_taken, conversions_more, logs, adds, history_more, most_pos}
 

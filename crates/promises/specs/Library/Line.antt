@@ -1,7 +1,7 @@
 -- The library for C on several tags (request #106; crates `rack` and `bagtag`; include/bagtag.h): the numbers of both calls for any bytes at
 -- all, what a refusal leaves, and that from `bagtag_line_new` on each call is `line_step` on a line whose records are the bytes lent.
 -- `library_line` in LineProof.antt proves it. Assumes nothing.
-use Rattle.std.specs.Prelude.{Bool, true, not, ◌&&◌, ◌||◌, List, [], ◌∷◌, ◌++◌, ◌≢◌, ◌≡◌, ℕ, zero, suc, ◌+◌, ◌*◌, ◌/◌, ◌≤◌, ◌<◌, min, eqb, leb, length, get_or, replicate, take, drop}
+use Rattle.std.specs.Prelude.{Bool, true, not, ◌&&◌, ◌||◌, List, [], ◌∷◌, ◌++◌, ◌≢◌, ◌≡◌, ℕ, zero, suc, ◌+◌, ◌*◌, ◌/◌, ◌≤◌, ◌<◌, min, eqb, leb, length, get_or, replicate, take, drop, if◌then◌else◌}
 use Rattle.bagtag.proofs.line.bagtag_line_event.Reads as bagtag_line_event
 use Rattle.bagtag.proofs.line.bagtag_line_new.Reads as bagtag_line_new
 use Rattle.bits.specs.Each.{each}
@@ -12,7 +12,6 @@ use Rattle.rack.specs.Rack.{rack_of}
 use Rattle.promises.specs.Library.{word_in, digit_of, Holds, is_record}
 use Rattle.promises.specs.Sentences.Events.{number_in, own_number, clear_tag}
 use Rattle.promises.specs.Several.{Line, count_of, leaves, twice, is_line, first_fault, Reached}
-use Rattle.promises.specs.Words.{if◌then◌else◌}
 
 -- ---- records
 

@@ -1,5 +1,5 @@
 -- The library's calls to a line are the board's, through the bytes of its records. Assumes nothing.
-use Rattle.std.specs.Prelude.{Bool, ◌&&◌, ◌||◌, List, [], ◌∷◌, ◌++◌, ◌≢◌, ◌≡◌, eqb, leb, ltb, replicate}
+use Rattle.std.specs.Prelude.{Bool, ◌&&◌, ◌||◌, List, [], ◌∷◌, ◌++◌, ◌≢◌, ◌≡◌, eqb, leb, ltb, replicate, if◌then◌else◌}
 use Rattle.std.proofs.Math.Bool.{true, false, not}
 use Rattle.std.proofs.Math.Logic.{dite}
 use Rattle.std.proofs.Math.Path.{refl, subst}
@@ -40,7 +40,6 @@ use Rattle.promises.specs.Sentences.Events.Proof.{numbered, number_accepts}
 use Rattle.promises.specs.Several.{Line, count_of, leaves, twice, is_line, first_fault, new_number, Reached}
 use Rattle.promises.specs.Several.Proof.{line_demand1}
 use Rattle.promises.specs.Several.Numbers.{twice_is, new_number_lem}
-use Rattle.promises.specs.Words.{if◌then◌else◌}
 
 -- ---- an event
 

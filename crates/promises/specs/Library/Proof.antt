@@ -1,5 +1,5 @@
 -- The library's calls are the tag's and the dock's, through a record's bytes. Assumes nothing.
-use Rattle.std.specs.Prelude.{Bool, ◌&&◌, List, ◌∷◌, ◌++◌, map, ◌≢◌, ◌≡◌, ℤ, pos, negsuc, get_or, replicate, take}
+use Rattle.std.specs.Prelude.{Bool, ◌&&◌, List, ◌∷◌, ◌++◌, map, ◌≢◌, ◌≡◌, ℤ, pos, negsuc, get_or, replicate, take, if◌then◌else◌}
 use Rattle.std.proofs.Math.Bool.{true, false, not}
 use Rattle.std.proofs.Common.{append_assoc, sym, subst, ◌∙◌, arith}
 use Rattle.std.proofs.Math.Logic.{dite}
@@ -54,7 +54,6 @@ use Rattle.promises.specs.Sentences.Events as sentences
 use Rattle.promises.specs.Sentences.Events.{number_in, own_number}
 use Rattle.promises.specs.Sentences.Events.Slots.{slot_spares}
 use Rattle.promises.specs.Sentences.Events.Proof.{events, number_accepts}
-use Rattle.promises.specs.Words.{if◌then◌else◌}
 
 -- ---- a new tag
 

@@ -1,9 +1,9 @@
 -- The clock of document 01 ("Memory": "0200h-0205h clock: seconds, minutes, hours, date, month with CENT in bit 7, year, all BCD"; "A mission":
 -- what a second does to it), its hours in either form (request #104), told in decimal numbers. Assumes nothing.
-use Rattle.std.specs.Prelude.{Bool, not, ◌&&◌, ◌||◌, List, [], ◌∷◌, ℕ, zero, suc, ◌+◌, ◌-◌, ◌*◌, ◌/◌, ◌%◌, eqb, leb}
+use Rattle.std.specs.Prelude.{Bool, not, ◌&&◌, ◌||◌, List, [], ◌∷◌, ℕ, zero, suc, ◌+◌, ◌-◌, ◌*◌, ◌/◌, ◌%◌, eqb, leb, if◌then◌else◌}
 use Rattle.std.specs.Int.Bits.{bit_and}
 use Rattle.calendar.specs.declared.Clock.{Clock}
-use Rattle.promises.specs.Words.{if◌then◌else◌, among, bit, byte_at}
+use Rattle.promises.specs.Words.{among, bit, byte_at}
 pub mod Laws
 
 -- ---- BCD

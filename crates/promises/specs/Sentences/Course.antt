@@ -1,7 +1,7 @@
 -- Document 01, "A mission": after any run of a mission, what the registers and the log hold, by its history alone; and which events that is said of.
 -- "with no register written and no Clear done" is the order's demand 2, which takes the same words. `course` in Mission/Proof.antt proves it.
 -- Assumes nothing.
-use Rattle.std.specs.Prelude.{true, false, not, ◌&&◌, ◌||◌, List, [], ◌∷◌, ◌⊎◌, ◌≡◌, ℕ, ◌+◌, ◌-◌, ◌*◌, ◌/◌, ◌%◌, ◌≤◌, ◌<◌, min, eqb, leb, length, get_or}
+use Rattle.std.specs.Prelude.{true, false, not, ◌&&◌, ◌||◌, List, [], ◌∷◌, ◌⊎◌, ◌≡◌, ℕ, ◌+◌, ◌-◌, ◌*◌, ◌/◌, ◌%◌, ◌≤◌, ◌<◌, min, eqb, leb, length, get_or, if◌then◌else◌}
 use Rattle.bus.specs.declared.Guarded.{Guarded}
 use Rattle.bus.specs.declared.Stage.{Stage}
 use Rattle.promises.specs.History
@@ -9,7 +9,7 @@ use Rattle.promises.specs.History.{Settings, Conversion}
 use Rattle.promises.specs.Runs.{State, Event, after, run, Reached, Always}
 use Rattle.promises.specs.Sentences.Clock.{seconds_on, clock_at, stamp_at}
 use Rattle.promises.specs.Sentences.Mission.{mip_of, wide, rate_of, samples_of, device_of, delay_of, MayStart, Started}
-use Rattle.promises.specs.Words.{if◌then◌else◌, byte_at, bit_at, held_of}
+use Rattle.promises.specs.Words.{byte_at, bit_at, held_of}
 
 -- ---- a mission's events
 

@@ -1,7 +1,7 @@
 -- Document 01, "The dump and its listing", and its numbers 7 to 12: which dumps are refused and by which number, what the dock lists of one
 -- that is accepted, from the dump's own characters, and that a tag's dump is what Read Memory sends. `dump` in Dump/Proof.antt proves it.
 -- What a listing says of a mission is demand 2. Assumes nothing.
-use Rattle.std.specs.Prelude.{Bool, true, false, not, ◌&&◌, ◌||◌, List, [], ◌∷◌, ◌++◌, ◌≢◌, ◌≡◌, ℕ, zero, suc, ◌+◌, ◌-◌, ◌*◌, ◌/◌, ◌%◌, ◌^◌, ◌<◌, eqb, leb, ltb, ℤ, pos, length, get_or, replicate}
+use Rattle.std.specs.Prelude.{Bool, true, false, not, ◌&&◌, ◌||◌, List, [], ◌∷◌, ◌++◌, ◌≢◌, ◌≡◌, ℕ, zero, suc, ◌+◌, ◌-◌, ◌*◌, ◌/◌, ◌%◌, ◌^◌, ◌<◌, eqb, leb, ltb, ℤ, pos, length, get_or, replicate, if◌then◌else◌}
 use Rattle.answer.specs.declared.Answer.{Answer}
 use Rattle.dock.specs.Listing.{listing_of, temperatures_of, seconds_at}
 use Rattle.dock.specs.declared.Listing.{Listing}
@@ -12,7 +12,7 @@ use Rattle.promises.specs.Sentences.Commands.{sent, head_of, crc_of, PassesRead}
 use Rattle.promises.specs.Sentences.Events.{number_in}
 use Rattle.promises.specs.Sentences.Listing.{entries, held, rate, content_number, temperature_at, seconds_for, first_line, entry_lines}
 use Rattle.promises.specs.Sentences.Memory.{sent_at}
-use Rattle.promises.specs.Words.{if◌then◌else◌, bit, low, slots, released, Chosen}
+use Rattle.promises.specs.Words.{bit, low, slots, released, Chosen}
 pub mod Lines
 pub mod Listed
 pub mod Text

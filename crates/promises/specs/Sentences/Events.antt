@@ -1,6 +1,6 @@
 -- Document 01, "Events and what they return", as changed by request #103: the numbers and exactly when each is given, what a refusal leaves,
 -- what a new tag is, and the bits of resets, ticks and slots held low. `events` in Events/Proof.antt proves it. Assumes nothing.
-use Rattle.std.specs.Prelude.{Bool, true, false, not, ◌&&◌, List, ◌≡◌, ◌≢◌, ℕ, ◌≤◌, eqb, ltb, length, replicate}
+use Rattle.std.specs.Prelude.{Bool, true, false, not, ◌&&◌, List, ◌≡◌, ◌≢◌, ℕ, ◌≤◌, eqb, ltb, length, replicate, if◌then◌else◌}
 use Rattle.answer.specs.declared.Answer.{Answer}
 use Rattle.bus.specs.declared.Stage.{Stage}
 use Rattle.select.specs.declared.Choosing.{Choosing}
@@ -10,7 +10,7 @@ use Rattle.record.specs.Record.{Outcome}
 use Rattle.tag.specs.Tag.{new_tag, step}
 use Rattle.promises.specs.Ranges.{is_rom, is_configuration, in_range, Fit}
 use Rattle.promises.specs.Runs.{State, Event, after, line_bit, run, Reached}
-use Rattle.promises.specs.Words.{if◌then◌else◌, byte_at}
+use Rattle.promises.specs.Words.{byte_at}
 pub mod Slots
 pub mod Proof
 

@@ -1,8 +1,8 @@
 -- Document 01, "The dump and its listing": what the bytes of a dump say, by their addresses, and the lines of its listing. `Sentences.Dump` says
 -- that this is what the dock returns and prints. Assumes nothing.
-use Rattle.std.specs.Prelude.{Bool, not, ◌&&◌, ◌||◌, List, [], ◌∷◌, ◌++◌, ℕ, zero, suc, ◌+◌, ◌-◌, ◌*◌, ◌/◌, ◌%◌, ◌^◌, min, eqb, ltb, ℤ, pos, negsuc, ◌-ℤ◌, ◌*ℤ◌}
+use Rattle.std.specs.Prelude.{Bool, not, ◌&&◌, ◌||◌, List, [], ◌∷◌, ◌++◌, ℕ, zero, suc, ◌+◌, ◌-◌, ◌*◌, ◌/◌, ◌%◌, ◌^◌, min, eqb, ltb, ℤ, pos, negsuc, ◌-ℤ◌, ◌*ℤ◌, if◌then◌else◌}
 use Rattle.promises.specs.Ranges.{is_configuration}
-use Rattle.promises.specs.Words.{if◌then◌else◌, bit}
+use Rattle.promises.specs.Words.{bit}
 
 -- "high byte first, upper case": the last `count` digits of a number
 unfoldable pub digits_of : ℕ → ℕ → List ℕ

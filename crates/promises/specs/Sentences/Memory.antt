@@ -1,8 +1,8 @@
 -- Document 01, "Memory", with request #104's bit of 0202h: what Read Memory sends at each address, and what a Copy leaves there, by the
 -- document's tables. `Sentences.Commands` says when either is done. Assumes nothing.
-use Rattle.std.specs.Prelude.{◌&&◌, List, [], ◌∷◌, ◌≡◌, ℕ, zero, suc, ◌+◌, ◌-◌, ◌%◌, eqb, leb, ltb, length, get_or}
+use Rattle.std.specs.Prelude.{◌&&◌, List, [], ◌∷◌, ◌≡◌, ℕ, zero, suc, ◌+◌, ◌-◌, ◌%◌, eqb, leb, ltb, length, get_or, if◌then◌else◌}
 use Rattle.std.specs.Int.Bits.{bit_and, bit_or}
-use Rattle.promises.specs.Words.{if◌then◌else◌, byte_at}
+use Rattle.promises.specs.Words.{byte_at}
 pub mod Laws
 
 -- ---- the tables

@@ -1,10 +1,10 @@
 -- Document 01, "A mission": the registers that it speaks of, and what Clear, Start, Stop and Forced Conversion change and leave, by bytes and bits of the
 -- image. When they are done is said in `Sentences.Controlling`; ticks are in `Sentences.Ticking`, and what a whole mission leaves in
 -- `Sentences.Course`. Assumes nothing.
-use Rattle.std.specs.Prelude.{Bool, true, false, ◌&&◌, ◌||◌, List, [], ◌∷◌, ◌≢◌, ◌≡◌, ℕ, ◌+◌, ◌*◌, ◌/◌, ◌%◌, ◌^◌, min, leb}
+use Rattle.std.specs.Prelude.{Bool, true, false, ◌&&◌, ◌||◌, List, [], ◌∷◌, ◌≢◌, ◌≡◌, ℕ, ◌+◌, ◌*◌, ◌/◌, ◌%◌, ◌^◌, min, leb, if◌then◌else◌}
 use Rattle.mission.specs.declared.Counters.{Counters}
 use Rattle.promises.specs.Runs.{State, after}
-use Rattle.promises.specs.Words.{if◌then◌else◌, byte_at, bit_at, word_at, Stays}
+use Rattle.promises.specs.Words.{byte_at, bit_at, word_at, Stays}
 pub mod Deeds
 pub mod Ticks
 pub mod Last

@@ -1,12 +1,12 @@
 -- Document 01, "Memory commands": Write Scratchpad, Read Scratchpad and Copy. `scratchpad` in Commands/Proof.antt proves it. Assumes nothing.
-use Rattle.std.specs.Prelude.{Bool, true, false, ◌||◌, List, [], ◌∷◌, ◌++◌, ◌⊎◌, ◌≡◌, ℕ, zero, suc, ◌+◌, ◌-◌, ◌*◌, ◌%◌, ◌^◌, ◌<◌, ltb, length, get_or, drop}
+use Rattle.std.specs.Prelude.{Bool, true, false, ◌||◌, List, [], ◌∷◌, ◌++◌, ◌⊎◌, ◌≡◌, ℕ, zero, suc, ◌+◌, ◌-◌, ◌*◌, ◌%◌, ◌^◌, ◌<◌, ltb, length, get_or, drop, if◌then◌else◌}
 use Rattle.bus.specs.declared.Held.{Held}
 use Rattle.promises.specs.Ranges.{Fit}
 use Rattle.promises.specs.Runs.{State, Kept}
 use Rattle.promises.specs.Sentences.Commands.{sent, Nothing, AreBytes, crc_of, head_of, PassesFull}
 use Rattle.promises.specs.Sentences.Memory.{Stored}
 use Rattle.promises.specs.Sentences.Mission.{Beside}
-use Rattle.promises.specs.Words.{if◌then◌else◌, low, slots, released, bit_at, held_of, status_of, Chosen}
+use Rattle.promises.specs.Words.{low, slots, released, bit_at, held_of, status_of, Chosen}
 
 -- ---- 0Fh Write Scratchpad
 

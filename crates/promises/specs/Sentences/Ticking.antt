@@ -1,11 +1,11 @@
 -- Document 01, "A mission", with requests #102 and #104: what a tick does to any image at all, a mission's or not. `ticking` in Mission/Proof.antt
 -- proves it. Assumes nothing.
-use Rattle.std.specs.Prelude.{Bool, true, false, not, ◌&&◌, ◌||◌, List, [], ◌∷◌, ◌≡◌, ℕ, ◌+◌, ◌-◌, ◌*◌, ◌/◌, ◌%◌, ◌≤◌, ◌<◌, min, eqb, leb}
+use Rattle.std.specs.Prelude.{Bool, true, false, not, ◌&&◌, ◌||◌, List, [], ◌∷◌, ◌≡◌, ℕ, ◌+◌, ◌-◌, ◌*◌, ◌/◌, ◌%◌, ◌≤◌, ◌<◌, min, eqb, leb, if◌then◌else◌}
 use Rattle.promises.specs.Ranges.{Fit}
 use Rattle.promises.specs.Runs.{State, Event, after, run}
 use Rattle.promises.specs.Sentences.Clock.{second_on, clock_at, six_at, stamp_at}
 use Rattle.promises.specs.Sentences.Mission.{mip_of, wide, waits, rate_of, period_of, samples_of, device_of, delay_of, high_alarm, low_alarm, alarms}
-use Rattle.promises.specs.Words.{if◌then◌else◌, byte_at, bit_at, Stays}
+use Rattle.promises.specs.Words.{byte_at, bit_at, Stays}
 
 -- ---- a conversion
 

@@ -1,5 +1,5 @@
 -- The bits of a line, and that its tags go in step: from a new line on none listens while another sends. Assumes nothing.
-use Rattle.std.specs.Prelude.{◌≡◌, refl, Bool, true, false, not, [], ◌∷◌, ◌≢◌, ℕ, ◌<◌, eqb}
+use Rattle.std.specs.Prelude.{◌≡◌, refl, Bool, true, false, not, [], ◌∷◌, ◌≢◌, ℕ, ◌<◌, eqb, if◌then◌else◌}
 use Rattle.std.proofs.Common.{sym, ap, subst, ◌∙◌, true≢false, inl}
 use Rattle.bits.specs.Each.{each, each_false, each_fails, each_same}
 use Rattle.event.specs.Event.{slotted, reset_tag, short_tag, tick_tag}
@@ -18,7 +18,7 @@ use Rattle.promises.specs.Several.InStep.{InStep, slot_step, reset_step, short_s
 use Rattle.promises.specs.Several.Laws.{tick_gives, tick_other, event_remains, event_tag, event_line}
 use Rattle.promises.specs.Several.Numbers.{some_is, new_number_lem}
 use Rattle.promises.specs.Several.Proof.{many_any, made, tag_silent, reached_line, fit_valid}
-use Rattle.promises.specs.Words.{if◌then◌else◌, speed_of}
+use Rattle.promises.specs.Words.{speed_of}
 
 -- ---- the line's bits
 

@@ -1,13 +1,13 @@
 -- Tags on one line go in step: of two that got the same slots and resets from a new line on, one is silent until a reset, or both hear the same
 -- byte, or neither hears anything until a reset. So none listens while another sends. Assumes nothing.
-use Rattle.std.specs.Prelude.{◌≡◌, Bool, ◌&&◌, ◌||◌, ◌⊎◌, [], ◌∷◌, ℕ, ◌%◌, eqb, ltb}
+use Rattle.std.specs.Prelude.{◌≡◌, Bool, ◌&&◌, ◌||◌, ◌⊎◌, [], ◌∷◌, ℕ, ◌%◌, eqb, ltb, if◌then◌else◌}
 use Rattle.std.proofs.Math.Path.{refl, sym, ap}
 use Rattle.std.proofs.Common.{subst, ◌∙◌, inl, inr, ⊎_elim}
 use Rattle.std.proofs.Math.Bool.{true, false}
 use Rattle.std.specs.Bool.{beq}
 use Rattle.std.proofs.lemmas.Bool.{false≢true}
 use Rattle.bits.specs.Bits.{bit_of, shift_in}
-use Rattle.bits.specs.Choose.{if◌then◌else◌, choice, choices}
+use Rattle.bits.specs.Choose.{choice, choices}
 use Rattle.bus.specs.declared.Addressed.{Addressed}
 use Rattle.bus.specs.declared.Bus.{Bus}
 use Rattle.bus.specs.declared.Guarded.{Guarded}

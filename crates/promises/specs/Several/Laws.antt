@@ -1,5 +1,5 @@
 -- One event of a line, and events one after the other: what each place holds afterwards, and the bits on the line. Assumes nothing.
-use Rattle.std.specs.Prelude.{◌≡◌, Bool, true, false, ◌≢◌, ℕ, ◌*◌, ◌≤◌, ◌<◌, eqb, length}
+use Rattle.std.specs.Prelude.{◌≡◌, Bool, true, false, ◌≢◌, ℕ, ◌*◌, ◌≤◌, ◌<◌, eqb, length, if◌then◌else◌}
 use Rattle.std.proofs.Math.Path.{refl, sym, ap}
 use Rattle.std.proofs.Common.{subst, ◌∙◌, arith, eq-eqb, ne_eqb}
 use mathlib.Core.List.{List, [], ◌∷◌, flat_map}
@@ -20,7 +20,6 @@ use Rattle.promises.specs.Runs as alone
 use Rattle.promises.specs.Runs.{State, Event}
 use Rattle.promises.specs.Runs.Laws.{Sound, run_append, tick_happens}
 use Rattle.promises.specs.Several.{Line, count_of, tag_at, Seven, LineEvent, code_of, place_of, reading_of, leaves, after, line_bit, Accepts, Ran, run, AllAccepted, hears, heard, bit_of, line_of}
-use Rattle.promises.specs.Words.{if◌then◌else◌}
 
 -- ---- a line as `board` has it
 

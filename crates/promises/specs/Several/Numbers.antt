@@ -1,5 +1,5 @@
 -- The numbers of a line's answers, by what stands in the line. Assumes nothing.
-use Rattle.std.specs.Prelude.{◌≡◌, refl, Bool, true, false, not, ◌&&◌, ◌||◌, List, ℕ, zero, suc, ◌+◌, ◌*◌, ◌-◌, ◌<◌, eqb, leb, ltb, length, get_or, drop}
+use Rattle.std.specs.Prelude.{◌≡◌, refl, Bool, true, false, not, ◌&&◌, ◌||◌, List, ℕ, zero, suc, ◌+◌, ◌*◌, ◌-◌, ◌<◌, eqb, leb, ltb, length, get_or, drop, if◌then◌else◌}
 use Rattle.std.proofs.Common.{sym, ap, ◌∙◌, add-one, arith, eqb-true, eq-eqb, drop_of_length-le, drop-cons}
 use Rattle.std.proofs.lemmas.Bool.{false≢true, not-true, not-false}
 use Rattle.std.proofs.Math.Logic.{dite}
@@ -17,7 +17,7 @@ use Rattle.promises.specs.Ranges.Laws.{range_is}
 use Rattle.promises.specs.Sentences.Events.{number_in, own_number}
 use Rattle.promises.specs.Sentences.Events.Proof.{numbered, rom_is}
 use Rattle.promises.specs.Several.{Line, count_of, tag_at, some, twice, is_line, line_number, first_fault, new_number}
-use Rattle.promises.specs.Words.{if◌then◌else◌, number_of}
+use Rattle.promises.specs.Words.{number_of}
 
 -- ---- two of the same
 

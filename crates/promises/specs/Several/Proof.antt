@@ -1,5 +1,5 @@
 -- What holds of every line: a tag on it is a tag, demand 1, and that a Match touches no other. Assumes nothing.
-use Rattle.std.specs.Prelude.{◌≡◌, Bool, true, false, not, ◌&&◌, ◌||◌, List, [], ◌∷◌, ◌≢◌, ℕ, zero, suc, ◌*◌, ◌<◌, ◌≤◌, eqb, leb, ltb, get_or, take, drop, replicate}
+use Rattle.std.specs.Prelude.{◌≡◌, Bool, true, false, not, ◌&&◌, ◌||◌, List, [], ◌∷◌, ◌≢◌, ℕ, zero, suc, ◌*◌, ◌<◌, ◌≤◌, eqb, leb, ltb, get_or, take, drop, replicate, if◌then◌else◌}
 use Rattle.std.proofs.Math.Path.{refl, ap}
 use Rattle.std.proofs.Common.{sym, subst, ◌∙◌, arith, eqb-true, leb-true, ltb-false, eq-eqb, ne_eqb, le-ltb}
 use Rattle.std.proofs.lemmas.Bool.{false≢true, lt-leb}
@@ -34,7 +34,7 @@ use Rattle.promises.specs.Sentences.Events.Proof.{number_accepts}
 use Rattle.promises.specs.Several.{Line, count_of, tag_at, Seven, LineEvent, happens, leaves, after, Accepts, run, AllAccepted, hears, OneTag, twice, is_line, line_number, first_fault, new_number, Defined, outcome, no_board, Reached, FitLine, Valid, LineDemand1}
 use Rattle.promises.specs.Several.Laws.{state_of, event_remains, event_tag, run_remains, run_tag, run_line}
 use Rattle.promises.specs.Several.Numbers.{twice_own, twice_none, line_number_lem, new_number_lem}
-use Rattle.promises.specs.Words.{if◌then◌else◌, number_of}
+use Rattle.promises.specs.Words.{number_of}
 
 -- ---- a tag on the line is a tag
 

@@ -1,5 +1,5 @@
 -- The words are what the crates' definitions say: one law a word. Assumes nothing.
-use Rattle.std.specs.Prelude.{Bool, true, false, not, ◌&&◌, ◌||◌, ◌⊎◌, ◌≡◌, T, eqb, leb, ltb, length, get_or, replicate}
+use Rattle.std.specs.Prelude.{Bool, true, false, not, ◌&&◌, ◌||◌, ◌⊎◌, ◌≡◌, T, eqb, leb, ltb, length, get_or, replicate, if◌then◌else◌}
 use Rattle.std.specs.Bool.{xor}
 use Rattle.std.proofs.lemmas.Bool.{false≢true, eqb-false, lt-leb}
 use mathlib.Core.List.{List, [], ◌∷◌, ◌++◌, map, flat_map, append-nil, map-append}
@@ -31,7 +31,7 @@ use Rattle.image.specs.Map.{region_at, index_of}
 use Rattle.image.specs.Map.Laws.{Lies, region_lies}
 use Rattle.select.specs.declared.Mode.{Mode}
 use Rattle.select.specs.Select as select
-use Rattle.promises.specs.Words.{if◌then◌else◌, among, bit, low, slots, polynomial, plus, remainder, crc8, crc16, byte_at, bit_at, word_at, in_runs, is_flag, has_flag, Stays, status_of, mark_in, speed_in}
+use Rattle.promises.specs.Words.{among, bit, low, slots, polynomial, plus, remainder, crc8, crc16, byte_at, bit_at, word_at, in_runs, is_flag, has_flag, Stays, status_of, mark_in, speed_in}
 
 -- ---- bits on the line
 

@@ -1,10 +1,9 @@
 -- What whole ROM commands come to, by induction on the bits that are left. Assumes nothing.
-use Rattle.std.specs.Prelude.{◌≡◌, refl, Bool, true, false, not, ◌||◌, ℕ, zero, suc, ◌+◌, ◌*◌, ◌/◌, ◌%◌, ◌^◌, ◌<◌, ◌≤◌, length}
+use Rattle.std.specs.Prelude.{◌≡◌, refl, Bool, true, false, not, ◌||◌, ℕ, zero, suc, ◌+◌, ◌*◌, ◌/◌, ◌%◌, ◌^◌, ◌<◌, ◌≤◌, length, if◌then◌else◌}
 use Rattle.std.proofs.Common.{sym, ap, ◌∙◌, div-one, mod-eq_of_lt, arith}
 use Rattle.std.specs.Bool.{beq}
 use Rattle.std.proofs.Math.Bool.{and-true}
 use mathlib.Core.List.{List, [], ◌∷◌, ◌++◌, flat_map}
-use Rattle.bits.specs.Choose.{if◌then◌else◌}
 use Rattle.bits.specs.Bits.{bit_of, bits_of, number_of, shift_in, shift_all, released}
 use Rattle.bits.specs.Bits.Laws.{length_bits, number_bits, heard_whole_lem, bits_from_lem}
 use Rattle.bits.specs.Tests.{beq_eq}

@@ -1,8 +1,7 @@
 -- The ROM commands by what they share, and the rule of the Resume mark. Assumes nothing.
-use Rattle.std.specs.Prelude.{◌≡◌, refl, List, [], ◌∷◌, Bool, true, false, ◌&&◌, ◌||◌, ℕ, ◌+◌, ltb, eqb}
+use Rattle.std.specs.Prelude.{◌≡◌, refl, List, [], ◌∷◌, Bool, true, false, ◌&&◌, ◌||◌, ℕ, ◌+◌, ltb, eqb, if◌then◌else◌}
 use Rattle.std.specs.Bool.{beq}
 use Rattle.std.proofs.Common.{eqb-true}
-use Rattle.bits.specs.Choose.{if◌then◌else◌}
 use Rattle.bits.specs.Bits.{bit_of, shift_in}
 use Rattle.select.specs.Select.{mark_in, speed_in, keeps, clears, rom_command, command_bit, following, read_bit, whole, heard_bit, slot_at, slot_of, ends_command}
 use Rattle.select.specs.Select.Laws.{mark_of_lem}

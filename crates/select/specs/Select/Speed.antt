@@ -1,13 +1,13 @@
 -- When the speed is set: by the slots of a whole 3Ch, or of a whole 69h with the number, and by no others; and that a slot sees nothing of
 -- it (request #103). Assumes nothing.
-use Rattle.std.specs.Prelude.{◌≡◌, refl, Bool, true, false, ◌&&◌, ◌||◌, List, [], ◌∷◌, ◌++◌, ◌⊎◌, ℕ, zero, suc, ◌+◌, ◌-◌, ◌/◌, ◌^◌, ◌<◌, ◌≤◌, ltb, eqb, T, length, take, drop}
+use Rattle.std.specs.Prelude.{◌≡◌, refl, Bool, true, false, ◌&&◌, ◌||◌, List, [], ◌∷◌, ◌++◌, ◌⊎◌, ℕ, zero, suc, ◌+◌, ◌-◌, ◌/◌, ◌^◌, ◌<◌, ◌≤◌, ltb, eqb, T, length, take, drop, if◌then◌else◌}
 use Rattle.std.proofs.Common.{sym, ap, ◌∙◌, inl, inr, ⊎_elim, div-one, arith, ltb-true, ltb-false, eqb-true, take-append-drop, length-take-le}
 use Rattle.std.specs.Bool.{beq}
 use Rattle.std.proofs.Math.Bool.{and-false, and-eq-true_iff}
 use Rattle.std.proofs.lemmas.Bool.{false≢true}
 use Rattle.std.proofs.Math.Logic.{dite}
 use Rattle.std.proofs.Math.Decide.{dec_lt}
-use Rattle.bits.specs.Choose.{if◌then◌else◌, either, choice, choices}
+use Rattle.bits.specs.Choose.{either, choice, choices}
 use Rattle.bits.specs.Bits.{bit_of, bits_of, number_of, shift_in, shift_all}
 use Rattle.bits.specs.Bits.Laws.{length_bits, bits_number, number_lt, heard_whole_lem, no_bits, bits_from_lem}
 use Rattle.bits.specs.Tests.{or_cases, beq_eq}

@@ -1,12 +1,11 @@
 -- What every call of the tag answers and leaves: the image's length, the record's ranges, and after a refusal all that it was
 -- given. Assumes nothing.
-use Rattle.std.specs.Prelude.{◌≡◌, refl, Bool, true, false, not, ◌&&◌, List, ◌≢◌, ℕ, zero, suc, ◌≤◌, ◌<◌, eqb, ltb, length, replicate}
+use Rattle.std.specs.Prelude.{◌≡◌, refl, Bool, true, false, not, ◌&&◌, List, ◌≢◌, ℕ, zero, suc, ◌≤◌, ◌<◌, eqb, ltb, length, replicate, if◌then◌else◌}
 use Rattle.std.proofs.Common.{sym, ◌∙◌, arith, eq-eqb, ne_eqb, eqb-true, ltb-false, lt-ltb, le-ltb, length-set}
 use Rattle.std.proofs.lemmas.Bool.{eqb-false}
 use Rattle.std.proofs.lemmas.List.{length-replicate}
 use Rattle.answer.specs.Answer.Laws.{not_accepted}
 use Rattle.answer.specs.declared.Answer.{Answer}
-use Rattle.bits.specs.Choose.{if◌then◌else◌}
 use Rattle.event.specs.Event.{slotted, reset_tag, short_tag, tick_tag}
 use Rattle.event.specs.Event.Laws.{length_slotted, length_tick, slotted_in_range, reset_in_range, short_in_range, tick_in_range}
 use Rattle.record.specs.declared.Tag.{Tag}

@@ -1,6 +1,6 @@
 -- The clock told in decimal numbers is the calendar's, a second on and any number of them, and in the image it is the one that the tag keeps.
 -- Assumes nothing.
-use Rattle.std.specs.Prelude.{◌≡◌, Bool, true, false, ◌&&◌, ◌||◌, List, ℕ, zero, suc, ◌+◌, ◌-◌, ◌*◌, ◌/◌, ◌%◌, ◌≤◌, ◌<◌, T, eqb, leb}
+use Rattle.std.specs.Prelude.{◌≡◌, Bool, true, false, ◌&&◌, ◌||◌, List, ℕ, zero, suc, ◌+◌, ◌-◌, ◌*◌, ◌/◌, ◌%◌, ◌≤◌, ◌<◌, T, eqb, leb, if◌then◌else◌}
 use Rattle.std.proofs.Math.Path.{refl}
 use Rattle.std.proofs.Common.{sym, ap, ◌∙◌, ⊎_elim, arith, leb-true, le-leb, lt-ltb, le-ltb, eq-eqb, ne_eqb, eqb→eq, leb→le}
 use Rattle.std.specs.Bool.{beq}
@@ -23,7 +23,7 @@ use Rattle.conversion.specs.Clock.{clock_of, stamp_of}
 use Rattle.conversion.specs.Clock.Named.{clock_named}
 use Rattle.image.specs.Tables.{register_at, named}
 use Rattle.promises.specs.Sentences.Clock.{decimal, bcd, is_valid, carries, stepped, hour_carries, hour_stepped, days_in, day_on, second_on, seconds_on, clock_at, six_at, stamp_at}
-use Rattle.promises.specs.Words.{if◌then◌else◌, among, bit}
+use Rattle.promises.specs.Words.{among, bit}
 
 -- ---- a field
 

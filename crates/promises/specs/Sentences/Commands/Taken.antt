@@ -1,5 +1,5 @@
 -- "A byte is taken at its first slot": ticks between its slots leave it; and what a slot may change at all. Assumes nothing.
-use Rattle.std.specs.Prelude.{◌≡◌, refl, Bool, true, List, [], ◌∷◌, ◌++◌, map, ℕ, zero, suc, ◌+◌, ◌*◌, ◌/◌, ◌%◌, ◌^◌, ◌<◌, ltb}
+use Rattle.std.specs.Prelude.{◌≡◌, refl, Bool, true, List, [], ◌∷◌, ◌++◌, map, ℕ, zero, suc, ◌+◌, ◌*◌, ◌/◌, ◌%◌, ◌^◌, ◌<◌, ltb, if◌then◌else◌}
 use Rattle.std.proofs.Math.Path.{ap}
 use Rattle.std.proofs.Common.{◌∙◌, inl, inr, div-one, arith, ltb-true, ltb-false}
 use Rattle.std.proofs.Math.Bool.{and-eq-true_iff}
@@ -7,7 +7,7 @@ use Rattle.std.proofs.Math.Logic.{dite}
 use Rattle.std.proofs.Math.Decide.{dec_le}
 use Rattle.bits.specs.Bits.{bit_of, bits_of, released}
 use Rattle.bits.specs.Bits.Laws.{no_bits, bits_from_lem}
-use Rattle.bits.specs.Choose.{if◌then◌else◌, either}
+use Rattle.bits.specs.Choose.{either}
 use Rattle.crc.specs.Crc.{crc16_run}
 use Rattle.dump.specs.Lines.{bytes_from}
 use Rattle.exchange.specs.declared.Exchange.{Exchange}

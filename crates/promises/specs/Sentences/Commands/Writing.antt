@@ -1,5 +1,5 @@
 -- Write Scratchpad and Read Scratchpad, from a tag that is chosen. Assumes nothing.
-use Rattle.std.specs.Prelude.{◌≡◌, refl, Bool, ℕ, suc, ◌+◌, ◌-◌, ◌*◌, ◌/◌, ◌%◌, ◌≤◌, ◌<◌, ltb, length, get_or, take, drop}
+use Rattle.std.specs.Prelude.{◌≡◌, refl, Bool, ℕ, suc, ◌+◌, ◌-◌, ◌*◌, ◌/◌, ◌%◌, ◌≤◌, ◌<◌, ltb, length, get_or, take, drop, if◌then◌else◌}
 use Rattle.std.proofs.Common.{ap, ◌∙◌, arith, lt-ltb, le-ltb, drop_of_length-le, length-take-le, get_or-take, get_or-drop, get_or-append-add}
 use mathlib.Core.List.{List, [], ◌∷◌, ◌++◌, append_assoc, append-nil, flat_map}
 use Rattle.std.proofs.Math.Logic.{dite}
@@ -26,7 +26,7 @@ use Rattle.promises.specs.Sentences.Commands.{sent, Nothing, AreBytes, head_of, 
 use Rattle.promises.specs.Sentences.Scratchpad.{Written}
 use Rattle.promises.specs.Sentences.Commands.Sent.{mode_of, goes_on, chosen_of, sent_quiet, head_slots}
 use Rattle.promises.specs.Words as words
-use Rattle.promises.specs.Words.{if◌then◌else◌, low, number_of, held_of, status_of, Chosen}
+use Rattle.promises.specs.Words.{low, number_of, held_of, status_of, Chosen}
 use Rattle.promises.specs.Words.Laws.{low_is, slots_are, two_bytes, crc_sent, status_is}
 
 -- ---- what is held

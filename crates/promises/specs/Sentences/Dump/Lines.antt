@@ -1,6 +1,6 @@
 -- A dump's lines as document 01 reads them, character by character, are those that the dock reads: the number of the first line that is refused,
 -- and the byte of every address. Assumes nothing.
-use Rattle.std.specs.Prelude.{Bool, true, false, not, ◌&&◌, ◌≢◌, ◌≡◌, eqb, leb, ltb, drop}
+use Rattle.std.specs.Prelude.{Bool, true, false, not, ◌&&◌, ◌≢◌, ◌≡◌, eqb, leb, ltb, drop, if◌then◌else◌}
 use Rattle.std.proofs.Math.Bool.{and_assoc, and-false, or-true, and-eq-true_iff}
 use mathlib.Core.List.{List, [], ◌∷◌, ◌++◌, flat_map}
 use Rattle.std.proofs.Math.Path.{refl, sym, fun_ext}
@@ -30,7 +30,7 @@ use Rattle.promises.specs.Sentences.Commands.{crc_of}
 use Rattle.promises.specs.Sentences.Dump.{is_digit, digit_value, all, page_at, shown, shown_from, line_number, lines_number, dumped}
 use Rattle.promises.specs.Sentences.Events.{number_in}
 use Rattle.promises.specs.Sentences.Events.Proof.{numbered, number_accepts}
-use Rattle.promises.specs.Words.{if◌then◌else◌, low, slots}
+use Rattle.promises.specs.Words.{low, slots}
 use Rattle.promises.specs.Words.Laws.{low_is, slots_are, two_bytes, crc_sent}
 
 -- ---- characters

@@ -1,5 +1,5 @@
 -- What the dock lists of a dump is what the dump's own characters say: number, counts, stamp, seconds and temperatures. Assumes nothing.
-use Rattle.std.specs.Prelude.{Bool, not, List, ◌≢◌, ◌≡◌, ℕ, suc, ◌+◌, ◌-◌, ◌*◌, ◌/◌, ◌%◌, ◌≤◌, ◌<◌, eqb, ltb, ℤ, pos, length, get_or}
+use Rattle.std.specs.Prelude.{Bool, not, List, ◌≢◌, ◌≡◌, ℕ, suc, ◌+◌, ◌-◌, ◌*◌, ◌/◌, ◌%◌, ◌≤◌, ◌<◌, eqb, ltb, ℤ, pos, length, get_or, if◌then◌else◌}
 use Rattle.std.proofs.Math.Bool.{true, false}
 use Rattle.std.proofs.Math.Logic.{dite}
 use Rattle.std.proofs.Math.Path.{refl}
@@ -25,7 +25,7 @@ use Rattle.promises.specs.Sentences.Listing.{entries, places, held, cannot_be, c
 use Rattle.promises.specs.Sentences.Dump.Lines.{first_number, all_number, dumped_is}
 use Rattle.promises.specs.Sentences.Events.{number_in}
 use Rattle.promises.specs.Sentences.Events.Proof.{numbered, number_accepts}
-use Rattle.promises.specs.Words.{if◌then◌else◌, bit}
+use Rattle.promises.specs.Words.{bit}
 
 -- ---- what a memory says
 

@@ -1,5 +1,5 @@
 -- The calls of a tag answer by document 01's numbers, a refusal leaves what it was given, and events keep a fit state. Assumes nothing.
-use Rattle.std.specs.Prelude.{◌≡◌, refl, Bool, true, false, not, ◌&&◌, List, ◌≢◌, ℕ, ◌+◌, ◌-◌, eqb, leb, ltb, length, get_or, replicate}
+use Rattle.std.specs.Prelude.{◌≡◌, refl, Bool, true, false, not, ◌&&◌, List, ◌≢◌, ℕ, ◌+◌, ◌-◌, eqb, leb, ltb, length, get_or, replicate, if◌then◌else◌}
 use Rattle.std.proofs.Common.{sym, ap, ◌∙◌, arith, ne_eqb, get_or-set_same, get_or-set_other}
 use Rattle.std.proofs.Math.Bool.{and-false}
 use Rattle.std.proofs.Math.Logic.{dite}
@@ -29,7 +29,7 @@ use Rattle.promises.specs.Runs.{State, Event, after}
 use Rattle.promises.specs.Runs.Laws.{slot_happens, reset_happens, tick_happens, tick_passed, number_run, code_run}
 use Rattle.promises.specs.Sentences.Events.{number_in, own_number, event_number, new_number, Defined, clear_tag, Events}
 use Rattle.promises.specs.Sentences.Events.Slots.{slot_listens, slot_sends}
-use Rattle.promises.specs.Words.{if◌then◌else◌, byte_at}
+use Rattle.promises.specs.Words.{byte_at}
 
 -- ---- numbers
 

@@ -1,11 +1,10 @@
 -- What a mission's image holds by its history alone (`Sentences.Course`, `told`), and what its Start has done (`starts`). Assumes nothing.
-use Rattle.std.specs.Prelude.{◌≡◌, refl, Bool, true, false, ◌&&◌, List, [], ◌∷◌, ℕ, ◌+◌, ◌*◌, ◌/◌, ◌%◌, ◌<◌, length, get_or}
+use Rattle.std.specs.Prelude.{◌≡◌, refl, Bool, true, false, ◌&&◌, List, [], ◌∷◌, ℕ, ◌+◌, ◌*◌, ◌/◌, ◌%◌, ◌<◌, length, get_or, if◌then◌else◌}
 use Rattle.std.proofs.Common.{sym, ◌∙◌}
 use Rattle.std.proofs.Math.Path.{ap}
 use Rattle.std.proofs.lemmas.Bool.{false≢true}
 use native.Mathlib.Omega.{arith}
 use Rattle.bits.specs.Bits.{bit_of}
-use Rattle.bits.specs.Choose.{if◌then◌else◌}
 use Rattle.image.specs.Fields as fields
 use Rattle.image.specs.Fields.{flag_at}
 use Rattle.image.specs.Leaves.{Leaves, word_left}

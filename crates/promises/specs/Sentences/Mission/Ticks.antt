@@ -1,6 +1,6 @@
 -- What a tick does to any image and record that no event refuses (`Sentences.Ticking`, `ticks`), from the laws of the mission's tick. Assumes
 -- nothing.
-use Rattle.std.specs.Prelude.{◌≡◌, refl, Bool, true, false, not, ◌&&◌, List, [], ◌∷◌, ℕ, ◌+◌, ◌*◌, ◌/◌, ◌%◌, ◌≤◌, ◌<◌, T, eqb, get_or}
+use Rattle.std.specs.Prelude.{◌≡◌, refl, Bool, true, false, not, ◌&&◌, List, [], ◌∷◌, ℕ, ◌+◌, ◌*◌, ◌/◌, ◌%◌, ◌≤◌, ◌<◌, T, eqb, get_or, if◌then◌else◌}
 use Rattle.std.proofs.Common.{sym, ◌∙◌, arith}
 use Rattle.std.proofs.Math.Bool.{and-eq-true_iff}
 use Rattle.std.proofs.lemmas.Bool.{not-true}
@@ -31,7 +31,7 @@ use Rattle.promises.specs.Sentences.Clock.{clock_at, six_at}
 use Rattle.promises.specs.Sentences.Clock.Laws.{second_is, clock_is, clock_at_named, stamp_is}
 use Rattle.promises.specs.Sentences.Mission.{waits, samples_of}
 use Rattle.promises.specs.Sentences.Ticking.{makes, log_byte, Converted, Ticked}
-use Rattle.promises.specs.Words.{if◌then◌else◌, bit, bit_at}
+use Rattle.promises.specs.Words.{bit, bit_at}
 use Rattle.promises.specs.Words.Laws.{byte_low, byte_log, stays_left}
 
 -- ---- a conversion that is made

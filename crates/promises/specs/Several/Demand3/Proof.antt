@@ -1,6 +1,6 @@
 -- Demand 3 for the line, from demand 3 of each of its tags: where every tag gives the same bits in both runs, so does the line. Assumes
 -- nothing.
-use Rattle.std.specs.Prelude.{◌≡◌, refl, Bool, true, false, ℕ, ◌<◌, eqb, drop, get_or}
+use Rattle.std.specs.Prelude.{◌≡◌, refl, Bool, true, false, ℕ, ◌<◌, eqb, drop, get_or, if◌then◌else◌}
 use Rattle.std.proofs.Common.{sym, ap, subst, ◌∙◌}
 use mathlib.Core.List.{List, [], ◌∷◌, ◌++◌, flat_map}
 use Rattle.bits.specs.Each.{each_same}
@@ -13,7 +13,6 @@ use Rattle.promises.specs.Several.{Line, LineEvent, count_of, tag_at, run, hears
 use Rattle.promises.specs.Several.Demand3.{Alike, AllAlike, LinePremises, LineDemand3}
 use Rattle.promises.specs.Several.Laws.{run_tag, run_line}
 use Rattle.promises.specs.Several.Proof.{AllValid, valid_accepted}
-use Rattle.promises.specs.Words.{if◌then◌else◌}
 
 -- ---- what a tag hears of two events that are alike: nothing, or two events that are
 
