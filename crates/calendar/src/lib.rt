@@ -25,6 +25,7 @@ pub struct Stepped {
 }
 
 // One second on. Most seconds step one field alone, so each field's carry is tested before the next is looked at.
+#[tactic(auto, unfolding(crate::specs::Calendar::next_second, crate::specs::Calendar::carried))]
 pub fn next(clock: Clock) -> Clock
     ensures { result ≡ next_second clock }
 {
@@ -48,6 +49,7 @@ pub fn next(clock: Clock) -> Clock
 }
 
 // One day on, by the month and the year that it ends in.
+#[tactic(auto, unfolding(crate::specs::Calendar::next_day, crate::specs::Calendar::carried))]
 fn next_day(clock: Clock) -> Clock
     ensures { result ≡ next_day clock }
 {
@@ -78,6 +80,7 @@ pub fn step_seconds(byte: u8) -> Stepped
 }
 
 // The hours, 24 a day, in the form that bit 6 gives.
+#[tactic(auto, unfolding(crate::specs::Calendar::step_hours, crate::specs::Calendar::step_field))]
 fn step_hours(byte: u8) -> Stepped
     ensures { result ≡ step_hours byte }
 {
@@ -89,6 +92,7 @@ fn step_hours(byte: u8) -> Stepped
 }
 
 // The hours of the twelve-hour form, PM in bit 5, as they follow each other: 12, 1 to 11, and the same again with PM.
+#[tactic(auto, unfolding(crate::specs::Calendar::step_along, crate::specs::Calendar::hour_after, crate::specs::Calendar::is_valid, crate::specs::Calendar::plus_one))]
 fn step_twelve(byte: u8) -> Stepped
     ensures { result ≡ step_along twelve_hours byte }
 {
@@ -112,6 +116,7 @@ fn valid_twelve(byte: u8) -> bool
 }
 
 // The month's byte: CENT is kept as the month steps.
+#[tactic(auto, using(crate::specs::Calendar::Laws::step_le), unfolding(crate::specs::Calendar::step_month))]
 fn step_month(byte: u8) -> Stepped
     ensures { result ≡ step_month byte }
 {
@@ -128,6 +133,7 @@ fn step_month(byte: u8) -> Stepped
 }
 
 // The month's byte with CENT, its bit 7, flipped.
+#[tactic(auto, unfolding(crate::specs::Calendar::flipped))]
 fn flip(byte: u8) -> u8
     ensures { result ≡ flipped byte }
 {
@@ -135,6 +141,7 @@ fn flip(byte: u8) -> u8
 }
 
 // The month's last date, in BCD: 31 of an invalid month.
+#[tactic(auto, unfolding(crate::specs::Calendar::days_in))]
 fn days_in(month: u8, year: u8) -> u8
     ensures { result ≡ days_in month year }
 {
@@ -146,6 +153,7 @@ fn days_in(month: u8, year: u8) -> u8
 }
 
 // Whether February has 29 days; an invalid year has no leap day.
+#[tactic(auto, unfolding(crate::specs::Calendar::is_leap, crate::specs::Calendar::decimal))]
 fn is_leap(year: u8) -> bool
     ensures { result ≡ is_leap year }
 {
@@ -153,6 +161,7 @@ fn is_leap(year: u8) -> bool
 }
 
 // One field's step, between its lowest and its last value.
+#[tactic(auto, using(crate::specs::Calendar::Laws::valid_between), unfolding(crate::specs::Calendar::step_field, crate::specs::Calendar::step_along, crate::specs::Calendar::plus_one))]
 fn step(lowest: u8, last: u8, byte: u8) -> Stepped
     ensures { result ≡ step_field lowest last byte }
 {
@@ -186,6 +195,7 @@ fn gone_on(next: u8) -> Stepped
 }
 
 // Two digits up to 9, and neither below the lowest nor past the last.
+#[tactic(auto, unfolding(crate::specs::Calendar::is_valid))]
 fn valid(lowest: u8, last: u8, byte: u8) -> bool
     ensures { result ≡ is_valid lowest last byte }
 {
