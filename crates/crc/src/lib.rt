@@ -70,6 +70,7 @@ fn crc16_each(crc: u16, bytes: &[u8]) -> u16
 }
 
 // The first of the two bytes that are sent: the low one, inverted.
+#[tactic(auto, unfolding(crate::specs::Crc::sent_low))]
 pub fn sent_low(crc: u16) -> u8
     ensures { result ≡ sent_low crc }
 {
@@ -77,6 +78,7 @@ pub fn sent_low(crc: u16) -> u8
 }
 
 // The second of the two bytes that are sent: the high one, inverted.
+#[tactic(auto, unfolding(crate::specs::Crc::sent_high))]
 pub fn sent_high(crc: u16) -> u8
     ensures { result ≡ sent_high crc }
 {
