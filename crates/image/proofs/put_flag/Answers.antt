@@ -16,13 +16,12 @@ one_bit i h = rw (one-mul (2 ^ i)) (mod-eq_of_lt (pow-lt h))
 pub returns-then-b : goal.returns-then-b
 unfolding put_flag with_bit
 returns-then-b c =
-    let below = c in
-    let a = below.args in
+    let a = c.args in
     c.poke.ensures
     ∙ rw (
       c.peek.ensures,
-      lt-ltb _ _ below.if-bit-lt8.true,
-      one_bit a.bit below.if-bit-lt8.true,
+      lt-ltb _ _ c.if-bit-lt8.true,
+      one_bit a.bit c.if-bit-lt8.true,
       c.if-b.true,
       one-mul (2 ^ a.bit),
     )
@@ -30,13 +29,12 @@ returns-then-b c =
 pub returns-else-b : goal.returns-else-b
 unfolding put_flag with_bit
 returns-else-b c =
-    let below = c in
-    let a = below.args in
+    let a = c.args in
     c.poke-else-b.ensures
     ∙ rw (
       c.peek.ensures,
-      lt-ltb _ _ below.if-bit-lt8.true,
-      one_bit a.bit below.if-bit-lt8.true,
+      lt-ltb _ _ c.if-bit-lt8.true,
+      one_bit a.bit c.if-bit-lt8.true,
       c.if-b.false,
       zero-mul (2 ^ a.bit),
       or_zero_r (bit_and (get_or a.image.now a.at 0) (255 - 2 ^ a.bit)),

@@ -27,8 +27,7 @@ loop-i-init c =
 
 pub loop-i-preserved : goal.loop-i-preserved
 loop-i-preserved c =
-    let start = c in
-    let a = start.args in
+    let a = c.args in
     let l = c.loop-i in
     let whole : length a.pad ≡ 32 = omega arith in (
       omega arith,
