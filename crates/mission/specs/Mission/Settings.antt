@@ -1,7 +1,6 @@
 -- A mission's settings: the fields that no tick and no control command touches, and what is read off them alone.
 -- Assumes nothing.
 use Rattle.std.specs.Prelude.{◌≡◌, List, ℕ}
-use Rattle.image.specs.Registers
 use Rattle.conversion.specs.Conversion.Settings.{SameSettings, settings_left}
 use Rattle.mission.specs.Mission.{cleared, started, stopped, period, ticked, forced}
 use Rattle.mission.specs.Mission.Frames.{leaves_ticked, leaves_cleared, leaves_started, leaves_stopped, leaves_forced}
