@@ -29,7 +29,7 @@ pub enum Choosing {
 
 // What outlasts a ROM command: the Resume mark and the speed, in one byte, so that a record is copied in whole words (bench/README.md). A
 // packed record has a case by its place here.
-#[derive(Drop)]
+#[derive(Clone, Copy)]
 pub enum Mode {
     // standard speed, no mark
     Plain,
@@ -90,6 +90,7 @@ pub fn overdrive(select: Select) -> bool
 }
 
 // Whether `select` keeps to its ranges.
+#[tactic(auto, unfolding(crate::specs::Select::choosing_in_range))]
 pub fn in_range(select: Select) -> bool
     ensures { result ≡ select_in_range select }
 {
@@ -107,6 +108,7 @@ pub fn in_range(select: Select) -> bool
 }
 
 // Whether the tag is chosen: its slots are those of a memory command.
+#[tactic(auto, unfolding(crate::specs::Select::is_chosen))]
 pub fn selected(select: Select) -> bool
     ensures { result ≡ is_selected select }
 {
@@ -118,6 +120,7 @@ pub fn selected(select: Select) -> bool
 }
 
 // Whether a slot with the master's `bit` ends the byte of a Conditional Search: the one slot in which `alarm` counts.
+#[tactic(auto, unfolding(crate::specs::Select::ends_command))]
 pub fn asks_alarm(select: Select, bit: bool) -> bool
     ensures { result ≡ asks_alarm select bit }
 {
@@ -134,6 +137,7 @@ pub fn asks_alarm(select: Select, bit: bool) -> bool
 
 // One slot: `bit` is true with the line released by the master, false with the line held low. A slot in which the tag
 // sends uses up its bit either way. A selected tag's slots are not choosing's: it stays as it is.
+#[tactic(auto, unfolding(crate::specs::Select::slot_of, crate::specs::Select::slot_at))]
 pub fn slot(select: Select, number: u64, bit: bool, alarm: bool) -> Chosen
     ensures { result ≡ slot_of select number bit alarm }
 {
@@ -184,6 +188,7 @@ fn keep(mode: Mode, choosing: Choosing) -> Select
 }
 
 // One more bit of the ROM command's byte.
+#[tactic(auto, unfolding(crate::specs::Select::command_bit))]
 fn command_bit(heard: u8, count: u8, mode: Mode, bit: bool, alarm: bool) -> Select
     ensures { result ≡ command_bit heard count mode bit alarm }
 {
@@ -196,6 +201,7 @@ fn command_bit(heard: u8, count: u8, mode: Mode, bit: bool, alarm: bool) -> Sele
 }
 
 // What follows a whole ROM command, and what it does to Resume mark and speed.
+#[tactic(auto, unfolding(crate::specs::Select::rom_command))]
 fn rom_command(byte: u8, mode: Mode, alarm: bool) -> Select
     ensures { result ≡ rom_command byte mode alarm }
 {
@@ -236,6 +242,7 @@ fn rom_command(byte: u8, mode: Mode, alarm: bool) -> Select
 }
 
 // The bit after bit `at`. After the last there is none; nobody goes there.
+#[tactic(auto, unfolding(crate::specs::Select::following))]
 fn following(at: u8) -> u8
     ensures { result ≡ following at }
 {
@@ -243,6 +250,7 @@ fn following(at: u8) -> u8
 }
 
 // Read ROM, once bit `at` is out.
+#[tactic(auto, unfolding(crate::specs::Select::read_bit))]
 fn read_bit(at: u8, mode: Mode) -> Select
     ensures { result ≡ read_bit at mode }
 {
@@ -254,6 +262,7 @@ fn read_bit(at: u8, mode: Mode) -> Select
 }
 
 // Match or Search, once bit `at` is heard: `next` while bits are left. `fast` is an overdrive Match.
+#[tactic(auto, unfolding(crate::specs::Select::heard_bit))]
 fn hear_bit(number: u64, at: u8, bit: bool, next: Choosing, fast: bool, mode: Mode) -> Select
     ensures { result ≡ heard_bit number at bit next fast mode }
 {

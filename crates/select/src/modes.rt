@@ -5,6 +5,7 @@ ghost use Rattle.select.specs.Select.{mark_in, speed_in, mode_of, whole};
 use crate::Mode;
 
 // Resume mark and speed as given.
+#[tactic(auto, unfolding(crate::specs::Select::mode_of))]
 pub(crate) fn made(mark: bool, speed: bool) -> Mode
     ensures { result ≡ mode_of mark speed }
 {
@@ -20,6 +21,7 @@ pub(crate) fn made(mark: bool, speed: bool) -> Mode
 }
 
 // The Resume mark.
+#[tactic(auto, unfolding(crate::specs::Select::mark_in))]
 pub(crate) fn mark(mode: Mode) -> bool
     ensures { result ≡ mark_in mode }
 {
@@ -32,6 +34,7 @@ pub(crate) fn mark(mode: Mode) -> bool
 }
 
 // The speed: whether it is overdrive.
+#[tactic(auto, unfolding(crate::specs::Select::speed_in))]
 pub(crate) fn speed(mode: Mode) -> bool
     ensures { result ≡ speed_in mode }
 {
