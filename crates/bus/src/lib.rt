@@ -9,7 +9,7 @@ ghost use Rattle.bus.specs.Bus.{new_held};
 pub mod state;
 
 // The commands that take an address.
-#[derive(Drop)]
+#[derive(Clone, Copy)]
 pub enum Addressed {
     Write,
     Copy,
@@ -17,7 +17,7 @@ pub enum Addressed {
 }
 
 // The commands that wait for FFh as their last byte.
-#[derive(Drop)]
+#[derive(Clone, Copy)]
 pub enum Control {
     Clear,
     Start,
@@ -26,14 +26,14 @@ pub enum Control {
 }
 
 // What follows a CRC-16 that the tag has sent.
-#[derive(Drop)]
+#[derive(Clone, Copy)]
 pub enum Next {
     Nothing,
     Page,
 }
 
 // Which byte is heard.
-#[derive(Drop)]
+#[derive(Clone, Copy)]
 pub enum Hearing {
     Command,
     // TA1, then TA2.
@@ -48,7 +48,7 @@ pub enum Hearing {
 }
 
 // What the eight bytes of a password field open.
-#[derive(Drop)]
+#[derive(Clone, Copy)]
 pub enum Guarded {
     Reading,
     Copying,
@@ -56,7 +56,7 @@ pub enum Guarded {
 }
 
 // Which byte goes out.
-#[derive(Drop)]
+#[derive(Clone, Copy)]
 pub enum Sending {
     // Read Scratchpad: TA1, TA2, E/S and the byte of this place of the scratchpad.
     PadLow,
@@ -71,7 +71,7 @@ pub enum Sending {
 }
 
 // Where the memory command stands.
-#[derive(Drop)]
+#[derive(Clone, Copy)]
 pub enum Stage {
     // 1s until a reset.
     Over,
@@ -83,7 +83,7 @@ pub enum Stage {
 }
 
 // The bus state of the memory commands: what a reset sets to one constant.
-#[derive(Drop)]
+#[derive(Clone, Copy)]
 pub struct Bus {
     pub stage: Stage,
     // The byte under way, heard so far or going out.
@@ -101,7 +101,7 @@ pub struct Bus {
 }
 
 // Scratchpad, TA and E/S: what a reset leaves.
-#[derive(Drop)]
+#[derive(Clone, Copy)]
 pub struct Held {
     pub pad: [u8; 32],
     pub ta: u16,

@@ -135,6 +135,7 @@ pub fn listen(held: Held, bus: Bus, deed: Deed) -> Moved
 }
 
 // E/S as a byte: AA in bit 7, PF in bit 5, the ending offset in bits 4-0.
+#[tactic(auto, unfolding(crate::specs::Bus::status_byte))]
 pub fn status_byte(held: Held) -> u8
     ensures { result ≡ status_byte held }
 {
@@ -149,6 +150,7 @@ fn flag(set: bool, bit: u8) -> u8
 }
 
 // The scratchpad's byte at a place; past its end there is none, and 0 stands for it.
+#[tactic(auto, unfolding(crate::specs::Bus::pad_byte))]
 pub fn pad_byte(held: Held, place: u8) -> u8
     ensures { result ≡ pad_byte held place }
 {
