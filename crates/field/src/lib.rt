@@ -9,6 +9,7 @@ ghost use Rattle.field.specs.Field.{gathered_bit, judged, after_reading, after_c
 use bus::{Bus, Control, Deed, Guarded, Hearing, Held, Moved, Question, Sending, Stage, state};
 
 // What is asked of the image: whether the field may, once it is whole.
+#[tactic(auto, unfolding(crate::specs::Field::field_asks))]
 pub fn ask(g: Guarded, bus: Bus, bit: bool) -> Question
     ensures { result ≡ field_asks g bus bit }
 {
@@ -31,6 +32,7 @@ fn question(g: Guarded, bus: Bus, field: u64) -> Question
 }
 
 // One bit of the field. No partial result exists: the field is compared whole.
+#[tactic(auto, unfolding(crate::specs::Field::gathered_bit))]
 pub fn gather(g: Guarded, held: Held, bus: Bus, bit: bool, may: bool) -> Moved
     ensures { result ≡ gathered_bit g held bus bit may }
 {
@@ -61,6 +63,7 @@ fn gather_on(bus: Bus, field: u64, at: u8) -> Bus
 }
 
 // The field is whole, and the image has said whether it may.
+#[tactic(auto, unfolding(crate::specs::Field::judged))]
 fn judge(g: Guarded, held: Held, bus: Bus, may: bool) -> Moved
     ensures { result ≡ judged g held bus may }
 {
@@ -77,6 +80,7 @@ fn judge(g: Guarded, held: Held, bus: Bus, may: bool) -> Moved
     }
 }
 
+#[tactic(auto, unfolding(crate::specs::Field::judged))]
 fn copy(held: Held, bus: Bus, may: bool) -> Moved
     ensures { result ≡ judged Guarded.Copying held bus may }
 {
@@ -90,6 +94,7 @@ fn copy(held: Held, bus: Bus, may: bool) -> Moved
 }
 
 // Read Memory sends, or the password is wrong or the address too high.
+#[tactic(auto, unfolding(crate::specs::Field::after_reading))]
 fn reading(address: u16, may: bool) -> Stage
     ensures { result ≡ after_reading address may }
 {
@@ -104,6 +109,7 @@ fn reading(address: u16, may: bool) -> Stage
     }
 }
 
+#[tactic(auto, unfolding(crate::specs::Field::after_controlling))]
 fn controlling(control: Control, may: bool) -> Stage
     ensures { result ≡ after_controlling control may }
 {
@@ -115,6 +121,7 @@ fn controlling(control: Control, may: bool) -> Stage
 }
 
 // Whether a Copy is done.
+#[tactic(auto, unfolding(crate::specs::Field::copies))]
 fn copied(held: Held, bus: Bus, may: bool) -> bool
     ensures { result ≡ copies held bus may }
 {
@@ -126,6 +133,7 @@ fn copied(held: Held, bus: Bus, may: bool) -> bool
 }
 
 // TA1, TA2 and E/S as sent are those held.
+#[tactic(auto, unfolding(crate::specs::Field::as_held))]
 fn same(held: Held, bus: Bus) -> bool
     ensures { result ≡ as_held held bus }
 {
@@ -133,6 +141,7 @@ fn same(held: Held, bus: Bus) -> bool
 }
 
 // Whole data to the page's end.
+#[tactic(auto, unfolding(crate::specs::Field::to_the_end))]
 fn filled(held: Held) -> bool
     ensures { result ≡ to_the_end held }
 {
