@@ -8,6 +8,7 @@ use bus::{
 };
 
 // One bit heard. The bits of a byte come low bit first, and with its eighth the byte is whole.
+#[tactic(auto, unfolding(crate::specs::Hear::heard_bit))]
 pub(crate) fn hear(h: Hearing, held: Held, bus: Bus, bit: bool) -> Moved
     ensures { result ≡ heard_bit h held bus bit }
 {
@@ -46,6 +47,7 @@ fn begin(h: Hearing, held: Held) -> Held
 }
 
 // A whole byte is heard.
+#[tactic(auto, unfolding(crate::specs::Hear::heard_whole))]
 fn whole(h: Hearing, held: Held, bus: Bus, byte: u8) -> Moved
     ensures { result ≡ heard_whole h held bus byte }
 {
@@ -60,6 +62,7 @@ fn whole(h: Hearing, held: Held, bus: Bus, byte: u8) -> Moved
 }
 
 // The CRC-16 begins with the command.
+#[tactic(auto, unfolding(crate::specs::Hear::heard_whole))]
 fn command(held: Held, bus: Bus, byte: u8) -> Moved
     ensures { result ≡ heard_whole Hearing.Command held bus byte }
 {
@@ -67,6 +70,7 @@ fn command(held: Held, bus: Bus, byte: u8) -> Moved
     state::listen(held, bus, Deed::Nothing)
 }
 
+#[tactic(auto, unfolding(crate::specs::Hear::heard_whole))]
 fn low(a: Addressed, held: Held, bus: Bus, byte: u8) -> Moved
     ensures { result ≡ heard_whole (Hearing.Low a) held bus byte }
 {
@@ -75,6 +79,7 @@ fn low(a: Addressed, held: Held, bus: Bus, byte: u8) -> Moved
     state::listen(held, bus, Deed::Nothing)
 }
 
+#[tactic(auto, unfolding(crate::specs::Hear::heard_whole))]
 fn high(a: Addressed, held: Held, bus: Bus, byte: u8) -> Moved
     ensures { result ≡ heard_whole (Hearing.High a) held bus byte }
 {
@@ -82,6 +87,7 @@ fn high(a: Addressed, held: Held, bus: Bus, byte: u8) -> Moved
     addressed(a, held, state::at_address(state::add(bus, byte), address))
 }
 
+#[tactic(auto, unfolding(crate::specs::Hear::heard_whole))]
 fn data(place: u8, held: Held, bus: Bus, byte: u8) -> Moved
     ensures { result ≡ heard_whole (Hearing.Data place) held bus byte }
 {
@@ -90,6 +96,7 @@ fn data(place: u8, held: Held, bus: Bus, byte: u8) -> Moved
     state::listen(held, bus, Deed::Nothing)
 }
 
+#[tactic(auto, unfolding(crate::specs::Hear::heard_whole))]
 fn status(held: Held, bus: Bus, byte: u8) -> Moved
     ensures { result ≡ heard_whole Hearing.Status held bus byte }
 {
@@ -98,6 +105,7 @@ fn status(held: Held, bus: Bus, byte: u8) -> Moved
 }
 
 // Which stage a command byte leads to.
+#[tactic(auto, unfolding(crate::specs::Hear::command_stage))]
 fn command_stage(byte: u8) -> Stage
     ensures { result ≡ command_stage byte }
 {
@@ -115,6 +123,7 @@ fn command_stage(byte: u8) -> Stage
 }
 
 // Both address bytes are in.
+#[tactic(auto, unfolding(crate::specs::Hear::address_heard))]
 fn addressed(a: Addressed, held: Held, bus: Bus) -> Moved
     ensures { result ≡ address_heard a held bus }
 {
@@ -152,6 +161,7 @@ fn load(held: Held, address: u16) -> Held
 }
 
 // A whole data byte, at its place of the scratchpad. A place past the end keeps nothing.
+#[tactic(auto, unfolding(crate::specs::Hear::stored))]
 fn store(held: Held, place: u8, byte: u8) -> Held
     ensures { result ≡ stored held place byte }
 {
@@ -168,6 +178,7 @@ fn store(held: Held, place: u8, byte: u8) -> Held
     }
 }
 
+#[tactic(auto, unfolding(crate::specs::Hear::after_data))]
 fn after_data(place: u8) -> Stage
     ensures { result ≡ after_data place }
 {
@@ -179,6 +190,7 @@ fn after_data(place: u8) -> Stage
 }
 
 // The last byte of a control command: FFh, or it is not done.
+#[tactic(auto, unfolding(crate::specs::Hear::confirmed))]
 fn confirm(control: Control, held: Held, bus: Bus, byte: u8) -> Moved
     ensures { result ≡ confirmed control held bus byte }
 {

@@ -13,6 +13,7 @@ mod range;
 mod send;
 
 // What must be known of the image in a slot of the master's `bit`.
+#[tactic(auto, unfolding(crate::specs::Memory::asks, crate::specs::Memory::stage_asks))]
 pub fn ask(bus: Bus, bit: bool) -> Question
     ensures { result ≡ asks bus bit }
 {
@@ -27,6 +28,7 @@ pub fn ask(bus: Bus, bit: bool) -> Question
 }
 
 // One slot of the master's `bit`; `answer` is the answer to what `ask` asks of the same slot.
+#[tactic(auto, unfolding(crate::specs::Memory::slot_of))]
 pub fn slot(held: Held, bus: Bus, bit: bool, answer: u8) -> Moved
     ensures { result ≡ slot_of held bus bit answer }
 {
@@ -34,6 +36,7 @@ pub fn slot(held: Held, bus: Bus, bit: bool, answer: u8) -> Moved
 }
 
 // The line is the master's bit and the tag's, combined by AND.
+#[tactic(auto, unfolding(crate::specs::Memory::on_line))]
 fn on_line(bit: bool, moved: Moved) -> Moved
     ensures { result ≡ on_line bit moved }
 {
@@ -53,6 +56,7 @@ fn on_line(bit: bool, moved: Moved) -> Moved
 }
 
 // A slot by the stage that it finds.
+#[tactic(auto, unfolding(crate::specs::Memory::stage_slot))]
 fn step(held: Held, bus: Bus, bit: bool, answer: u8) -> Moved
     ensures { result ≡ stage_slot bus.stage held bus bit answer }
 {
@@ -67,6 +71,7 @@ fn step(held: Held, bus: Bus, bit: bool, answer: u8) -> Moved
 }
 
 // Whether these are values that a new tag can lead to: docs/RANGES.md, refusal 6.
+#[tactic(auto, unfolding(crate::specs::Range::memory_in_range))]
 pub fn in_range(held: Held, bus: Bus) -> bool
     ensures { result ≡ memory_in_range held bus }
 {

@@ -7,6 +7,7 @@ ghost use Rattle.memory.specs.Range.{from_offset, hearing_in_range, guarded_in_r
 use bus::{Bus, Control, Guarded, Hearing, Held, Next, Sending, Stage};
 
 // The stage and how many bits are past.
+#[tactic(auto, unfolding(crate::specs::Range::stage_in_range))]
 pub(crate) fn stage_in_range(held: Held, bus: Bus) -> bool
     ensures { result ≡ stage_in_range bus.stage held bus }
 {
@@ -21,12 +22,14 @@ pub(crate) fn stage_in_range(held: Held, bus: Bus) -> bool
 }
 
 // A place of the scratchpad from TA's offset to 1Fh.
+#[tactic(auto, unfolding(crate::specs::Range::from_offset))]
 pub(crate) fn from_offset(held: Held, place: u8) -> bool
     ensures { result ≡ from_offset held place }
 {
     (held.ta % 32) as u8 <= place && place < 32
 }
 
+#[tactic(auto, unfolding(crate::specs::Range::hearing_in_range))]
 fn hearing_in_range(h: Hearing, held: Held) -> bool
     ensures { result ≡ hearing_in_range h held }
 {
@@ -40,6 +43,7 @@ fn hearing_in_range(h: Hearing, held: Held) -> bool
     }
 }
 
+#[tactic(auto, unfolding(crate::specs::Range::guarded_in_range))]
 fn guarded_in_range(g: Guarded) -> bool
     ensures { result ≡ guarded_in_range g }
 {
@@ -51,6 +55,7 @@ fn guarded_in_range(g: Guarded) -> bool
 }
 
 // A Forced Conversion takes none.
+#[tactic(auto, unfolding(field::specs::Field::guarded))]
 fn takes_password(control: Control) -> bool
     ensures { result ≡ guarded control }
 {
@@ -62,6 +67,7 @@ fn takes_password(control: Control) -> bool
     }
 }
 
+#[tactic(auto, unfolding(crate::specs::Range::sending_in_range))]
 fn sending_in_range(s: Sending, held: Held, bus: Bus) -> bool
     ensures { result ≡ sending_in_range s held bus }
 {
@@ -77,6 +83,7 @@ fn sending_in_range(s: Sending, held: Held, bus: Bus) -> bool
 }
 
 // Read Memory's CRC-16 follows a page's last byte.
+#[tactic(auto, unfolding(crate::specs::Range::crc_in_range))]
 fn crc_in_range(next: Next, address: u16) -> bool
     ensures { result ≡ crc_in_range next address }
 {

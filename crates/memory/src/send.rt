@@ -5,6 +5,7 @@ ghost use Rattle.memory.specs.Send.{first_byte, after_pad, after_memory, after_p
 use bus::{Bus, Deed, Held, Moved, Next, Question, Sending, Stage, state};
 
 // What is asked of the image: Read Memory's byte, at its first slot.
+#[tactic(auto, unfolding(crate::specs::Send::send_asks))]
 pub(crate) fn send_asks(s: Sending, bus: Bus) -> Question
     ensures { result ≡ send_asks s bus }
 {
@@ -26,6 +27,7 @@ pub(crate) fn send_asks(s: Sending, bus: Bus) -> Question
 }
 
 // One bit goes out, whatever the master does. `memory` is what the image holds for Read Memory.
+#[tactic(auto, unfolding(crate::specs::Send::sent_bit))]
 pub(crate) fn send(s: Sending, held: Held, bus: Bus, memory: u8) -> Moved
     ensures { result ≡ sent_bit s held bus memory }
 {
@@ -52,6 +54,7 @@ pub(crate) fn send(s: Sending, held: Held, bus: Bus, memory: u8) -> Moved
 }
 
 // The byte going out is taken at its first slot, and kept.
+#[tactic(auto, unfolding(crate::specs::Send::outgoing))]
 fn going(s: Sending, held: Held, bus: Bus, memory: u8) -> u8
     ensures { result ≡ outgoing s held bus memory }
 {
@@ -62,6 +65,7 @@ fn going(s: Sending, held: Held, bus: Bus, memory: u8) -> u8
     }
 }
 
+#[tactic(auto, unfolding(crate::specs::Send::first_byte))]
 fn first(s: Sending, held: Held, bus: Bus, memory: u8) -> u8
     ensures { result ≡ first_byte s held bus memory }
 {
@@ -77,6 +81,7 @@ fn first(s: Sending, held: Held, bus: Bus, memory: u8) -> u8
 }
 
 // A whole byte has gone out.
+#[tactic(auto, unfolding(crate::specs::Send::sent_whole))]
 fn whole(s: Sending, held: Held, bus: Bus, byte: u8) -> Bus
     ensures { result ≡ sent_whole s held bus byte }
 {
@@ -94,6 +99,7 @@ fn whole(s: Sending, held: Held, bus: Bus, byte: u8) -> Bus
     }
 }
 
+#[tactic(auto, unfolding(crate::specs::Send::after_pad))]
 fn after_pad(place: u8) -> Stage
     ensures { result ≡ after_pad place }
 {
@@ -105,6 +111,7 @@ fn after_pad(place: u8) -> Stage
 }
 
 // Read Memory goes on to the page's end, then sends the CRC-16.
+#[tactic(auto, unfolding(crate::specs::Send::after_memory))]
 fn after_memory(bus: Bus) -> Bus
     ensures { result ≡ after_memory bus }
 {
@@ -119,6 +126,7 @@ fn after_memory(bus: Bus) -> Bus
     }
 }
 
+#[tactic(auto, unfolding(crate::specs::Send::after_crc))]
 fn after_crc(next: Next, bus: Bus) -> Bus
     ensures { result ≡ after_crc next bus }
 {
@@ -129,6 +137,7 @@ fn after_crc(next: Next, bus: Bus) -> Bus
 }
 
 // The next page with a CRC-16 of its own, or the end at 2FFFh.
+#[tactic(auto, unfolding(crate::specs::Send::after_page))]
 fn after_page(bus: Bus) -> Bus
     ensures { result ≡ after_page bus }
 {
@@ -142,6 +151,7 @@ fn after_page(bus: Bus) -> Bus
 }
 
 // After a Copy that is done: 0, 1, 0, 1 on.
+#[tactic(auto, unfolding(crate::specs::Send::alternating))]
 pub(crate) fn alternate(held: Held, bus: Bus) -> Moved
     ensures { result ≡ alternating held bus }
 {
