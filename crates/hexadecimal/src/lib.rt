@@ -15,6 +15,7 @@ pub enum Pair {
 }
 
 // The pair of digits at `at`, high digit first.
+#[tactic(auto, using(crate::specs::Hex::Laws::pair_past), unfolding(crate::specs::Hex::pair_at, crate::specs::Hex::pair_of))]
 pub fn pair_at(text: &[u8], at: usize) -> Pair
     ensures { result ≡ pair_at text.now at }
 {
@@ -37,6 +38,7 @@ pub fn pair_at(text: &[u8], at: usize) -> Pair
 }
 
 // What a digit stands for; 16 for any other character.
+#[tactic(auto, unfolding(crate::specs::Hex::nibble_of))]
 pub fn nibble(character: u8) -> u8
     ensures { result ≡ nibble_of character }
 {
