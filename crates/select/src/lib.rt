@@ -9,7 +9,7 @@ ghost use Rattle.std.specs.Prelude.{◌≡◌};
 ghost use Rattle.select.specs.Select.{speed_in, new_select, reset_select, restarted, slot_of, is_selected, asks_alarm, select_in_range, command_bit, rom_command, keeps, read_bit, heard_bit, following, sends};
 
 // Where the choosing of a tag stands. A packed record has a case by its place here (crate `packing`): a new one goes last.
-#[derive(Drop)]
+#[derive(Clone, Copy)]
 pub enum Choosing {
     // sends and hears nothing until a reset
     Silent,
@@ -42,7 +42,7 @@ pub enum Mode {
 }
 
 // What choosing keeps from slot to slot, and `mode` from reset to reset.
-#[derive(Drop)]
+#[derive(Clone, Copy)]
 pub struct Select {
     pub choosing: Choosing,
     pub mode: Mode,
