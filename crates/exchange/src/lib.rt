@@ -51,6 +51,7 @@ pub fn reset(x: Exchange) -> Exchange
 }
 
 // A short reset breaks off at overdrive too, and the speed stays; at standard speed it does nothing.
+#[tactic(auto, unfolding(crate::specs::Exchange::after_short))]
 pub fn short_reset(x: Exchange) -> Exchange
     ensures { result ≡ after_short x }
 {
@@ -78,6 +79,7 @@ fn begin(x: Exchange, select: Select) -> Exchange
 }
 
 // What must be known of the image in a slot of the master's `bit`.
+#[tactic(auto, unfolding(crate::specs::Exchange::asks))]
 pub fn ask(x: Exchange, bit: bool) -> Question
     ensures { result ≡ asks x bit }
 {
@@ -94,6 +96,7 @@ pub fn ask(x: Exchange, bit: bool) -> Question
 }
 
 // One slot of the master's `bit`; `answer` is the answer to what `ask` asks of the same slot.
+#[tactic(auto, unfolding(crate::specs::Exchange::slot_of))]
 pub fn slot(x: Exchange, bit: bool, answer: u8) -> Slotted
     ensures { result ≡ slot_of x bit answer }
 {
