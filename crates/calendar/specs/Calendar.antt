@@ -120,8 +120,8 @@ next_second c =
     let seconds = step_field 0x00 0x59 c.seconds in
     let minutes = carried seconds (step_field 0x00 0x59) c.minutes in
     let hours = carried minutes step_hours c.hours in
-    let sameDay : Clock = record { seconds = seconds.byte; minutes = minutes.byte; hours = hours.byte; date = c.date; month = c.month; year = c.year } in
-    if hours.carry then next_day sameDay else sameDay
+    let same_day : Clock = record { seconds = seconds.byte; minutes = minutes.byte; hours = hours.byte; date = c.date; month = c.month; year = c.year } in
+    if hours.carry then next_day same_day else same_day
 
 -- n seconds on
 unfoldable pub clock_after : ℕ → Clock → Clock
