@@ -4,7 +4,7 @@
 
 ghost use Rattle.std.specs.Prelude.{◌≡◌, eqb};
 ghost use Rattle.memory.specs.Memory.{slot_of as memory_slot};
-ghost use Rattle.select.specs.Select.{slot_of as selectSlot};
+ghost use Rattle.select.specs.Select.{slot_of as select_slot};
 ghost use Rattle.exchange.specs.Exchange.{new_exchange, begun, after_reset, after_short, asks, slot_of, commanded, choosing, exchange_in_range};
 
 use bus::{Bus, Deed, Hearing, Held, Question, Stage};
@@ -134,7 +134,7 @@ fn command_slot(x: Exchange, bit: bool, answer: u8) -> Slotted
 
 // A slot before the tag is chosen.
 fn choosing_slot(x: Exchange, bit: bool, answer: u8) -> Slotted
-    ensures { result ≡ choosing x (selectSlot x.select x.number bit (eqb answer 1)) }
+    ensures { result ≡ choosing x (select_slot x.select x.number bit (eqb answer 1)) }
 {
     let before = x.select;
     let chosen = select::slot(before, x.number, bit, answer == 1);
