@@ -6,7 +6,7 @@ ghost use Rattle.std.specs.Prelude.{◌≡◌};
 ghost use Rattle.answer.specs.Answer.{answer_number, refusal_text};
 ghost use Rattle.answer.specs.Answer.Laws.{place_of};
 
-#[derive(Drop)]
+#[derive(Clone, Copy)]
 pub enum Answer {
     Accepted,
     // An event code above 4, or a list's word that is no event.
