@@ -58,6 +58,7 @@ pub fn read(dump: &[u8]) -> Dumped
 }
 
 // A refusal has no bytes.
+#[tactic(auto, unfolding(crate::specs::Check::refused))]
 fn refuse(answer: Answer) -> Dumped
     ensures { result ≡ refused answer }
 {
@@ -115,6 +116,7 @@ fn put_data(memory: &mut [u8], at: usize, bytes: [u8; 36])
 }
 
 // The page that a line shows, high byte first.
+#[tactic(auto, unfolding(crate::specs::Lines::page_in))]
 fn page_in(bytes: [u8; 36]) -> u16
     ensures { result ≡ page_in bytes }
 {
@@ -122,6 +124,7 @@ fn page_in(bytes: [u8; 36]) -> u16
 }
 
 // The CRC-16 that Read Memory takes of a line's page and data: over the command, the address low byte first, and the data.
+#[tactic(auto, using(crc::specs::Crc::Laws::run_cons), unfolding(crate::specs::Lines::crc_in, crate::specs::Lines::page_crc, crate::specs::Lines::data_in))]
 fn crc_in(bytes: [u8; 36]) -> u16
     ensures { result ≡ crc_in bytes }
 {
@@ -131,6 +134,7 @@ fn crc_in(bytes: [u8; 36]) -> u16
 }
 
 // The page that a line's place asks; 0 past the last line.
+#[tactic(auto, unfolding(crate::specs::Lines::page_of))]
 pub fn page_of(line: usize) -> u16
     ensures { result ≡ page_of line }
 {
@@ -144,6 +148,7 @@ pub fn page_of(line: usize) -> u16
 }
 
 // The byte that a dump's memory has for an address in 0200h-023Fh or 1000h-2FFFh; 0 for any other.
+#[tactic(auto, unfolding(crate::specs::Lines::memory_at))]
 pub fn byte_at(memory: &[u8], address: u16) -> u8
     ensures { result ≡ memory_at memory.now address }
 {
