@@ -10,7 +10,7 @@ use answer::Answer;
 use record::{Answered, Tag};
 
 // What a list returns: the answer, the record, and how many of its words are done.
-#[derive(Drop)]
+#[derive(Clone, Copy)]
 pub struct Batch {
     pub answer: Answer,
     pub tag: Tag,

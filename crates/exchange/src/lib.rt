@@ -10,7 +10,7 @@ ghost use Rattle.exchange.specs.Exchange.{new_exchange, begun, after_reset, afte
 use bus::{Bus, Deed, Hearing, Held, Question, Stage};
 use select::Select;
 
-#[derive(Drop)]
+#[derive(Clone, Copy)]
 pub struct Exchange {
     // The registration number, low byte first.
     pub number: u64,

@@ -20,7 +20,7 @@ pub const RECORD: usize = 80;
 const VERSION: u8 = 1;
 
 // A case of an enum by its number, and two numbers for what it holds.
-#[derive(Drop)]
+#[derive(Clone, Copy)]
 pub struct Coded {
     pub case: u8,
     pub first: u8,

@@ -11,7 +11,7 @@ use exchange::Exchange;
 use mission::Counters;
 use select::Select;
 
-#[derive(Drop)]
+#[derive(Clone, Copy)]
 pub struct Tag {
     // The configuration code, 40h (L) or 60h (T).
     pub code: u8,
@@ -20,7 +20,7 @@ pub struct Tag {
 }
 
 // What a call answers: the number's case, the record, and the line bit.
-#[derive(Drop)]
+#[derive(Clone, Copy)]
 pub struct Answered {
     pub answer: Answer,
     pub tag: Tag,
