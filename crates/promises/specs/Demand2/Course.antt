@@ -251,15 +251,15 @@ stopped_run : {start : List ℕ} {es : List Conversion} {s : State} (events : Li
     → Always Spares s events → Listed start es (run s events).state.image × (mission_ticks s events ≡ [])
 unfolding run Always mission_ticks Words.bit flag_at bit_of
 stopped_run [] solid h always = (h.listed, refl)
-stopped_run (Event.tick reading ∷ events) solid h always =
-    let rest = stopped_run events (solid_after solid (Event.tick reading)) (stopped_after solid (Event.tick reading) always.0 h) always.1 in
+stopped_run {s = s} (Event.tick reading ∷ events) solid h always =
+    let rest = stopped_run {s = after s (Event.tick reading)} events (solid_after solid (Event.tick reading)) (stopped_after solid (Event.tick reading) always.0 h) always.1 in
     (rest.0, rw h.mip rest.1)
-stopped_run (Event.reset ∷ events) solid h always =
-    stopped_run events (solid_after solid Event.reset) (stopped_after solid Event.reset always.0 h) always.1
-stopped_run (Event.short ∷ events) solid h always =
-    stopped_run events (solid_after solid Event.short) (stopped_after solid Event.short always.0 h) always.1
-stopped_run (Event.slot bit ∷ events) solid h always =
-    stopped_run events (solid_after solid (Event.slot bit)) (stopped_after solid (Event.slot bit) always.0 h) always.1
+stopped_run {s = s} (Event.reset ∷ events) solid h always =
+    stopped_run {s = after s Event.reset} events (solid_after solid Event.reset) (stopped_after solid Event.reset always.0 h) always.1
+stopped_run {s = s} (Event.short ∷ events) solid h always =
+    stopped_run {s = after s Event.short} events (solid_after solid Event.short) (stopped_after solid Event.short always.0 h) always.1
+stopped_run {s = s} (Event.slot bit ∷ events) solid h always =
+    stopped_run {s = after s (Event.slot bit)} events (solid_after solid (Event.slot bit)) (stopped_after solid (Event.slot bit) always.0 h) always.1
 
 stop_deed : (deed : Deed) → is_stop deed ≡ true → deed ≡ Deed.Stop
 unfolding is_stop
@@ -280,7 +280,7 @@ stop_after {s = s} solid bit e h = rw (slot_leaves solid bit, stop_deed (slot_at
 pub solid_run : {s : State} (events : List Event) → Solid s → Solid (run s events).state
 unfolding run
 solid_run [] solid = solid
-solid_run (e ∷ events) solid = solid_run events (solid_after solid e)
+solid_run {s} (e ∷ events) solid = solid_run {s = after s e} events (solid_after solid e)
 
 -- a reset of either kind leaves what an image holds
 pub holds_kept : {start readings : List ℕ} {s u : State} → Kept s u → Holds start readings s.image s.tag.counters

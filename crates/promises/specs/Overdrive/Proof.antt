@@ -115,15 +115,15 @@ speed_run : {s : State} → Sound s → (events : List Event) → NoLong events 
 unfolding run NoLong slots_in speed_in
 speed_run {s} sound [] none = sym (rw (leads_none (choosing_of s) (number_of s) (exchange-laws.parts s.tag.exchange (in_range_lem sound)).0))
 speed_run {s} sound (Event.slot bit ∷ events) none =
-    speed_run (sound_after (Event.slot bit) sound) events none
+    speed_run {s = after s (Event.slot bit)} (sound_after (Event.slot bit) sound) events none
     ∙ ap (λ (n : ℕ). leads (choosing_of (after s (Event.slot bit))) n (slots_in events) || speed_of (after s (Event.slot bit)))
     (number_after (Event.slot bit) sound)
     ∙ sym (slot_speed sound bit (slots_in events))
 speed_run sound (Event.reset ∷ events) none = absurd none
 speed_run {s} sound (Event.tick reading ∷ events) none =
-    speed_run (sound_after (Event.tick reading) sound) events none
+    speed_run {s = after s (Event.tick reading)} (sound_after (Event.tick reading) sound) events none
     ∙ ap (λ (x : Exchange). leads x.select.choosing x.number (slots_in events) || speed_in x.select.mode) (tick_exchange sound reading)
-speed_run {s} sound (Event.short ∷ events) none = by (speed_of s) refl (speed_run (sound_after Event.short sound) events none)
+speed_run {s} sound (Event.short ∷ events) none = by (speed_of s) refl (speed_run {s = after s Event.short} (sound_after Event.short sound) events none)
   where
     bits : List Bool
     bits = slots_in events

@@ -181,7 +181,7 @@ fit_after {s} fit e =
 pub fit_run : {s : State} → Fit s → (es : List Event) → Fit (run s es).state
 unfolding run
 fit_run fit [] = fit
-fit_run fit (e ∷ es) = fit_run (fit_after fit e) es
+fit_run {s} fit (e ∷ es) = fit_run {s = after s e} (fit_after fit e) es
 
 pub reached_fit : {s : State} → Reached s → Fit s
 reached_fit reached = to_fit (reached_sound reached) (reached_whole reached) (reached_padded reached)

@@ -129,7 +129,7 @@ sound_after {s} e sound =
 pub sound_run : {s : State} (es : List Event) → Sound s → Sound (run s es).state
 unfolding run
 sound_run [] sound = sound
-sound_run (e ∷ es) sound = sound_run es (sound_after e sound)
+sound_run {s} (e ∷ es) sound = sound_run {s = after s e} es (sound_after e sound)
 
 sound_new : (image : List ℕ) (number code : ℕ) → (new_tag image number code).answered.answer ≡ Answer.Accepted →
     Sound (leaves (new_tag image number code))
@@ -209,7 +209,7 @@ number_after (Event.tick reading) sound =
 pub number_run : {s : State} (es : List Event) → Sound s → (run s es).state.tag.exchange.number ≡ s.tag.exchange.number
 unfolding run
 number_run [] sound = refl
-number_run (e ∷ es) sound = number_run es (sound_after e sound) ∙ number_after e sound
+number_run {s} (e ∷ es) sound = number_run {s = after s e} es (sound_after e sound) ∙ number_after e sound
 
 -- nor the code
 
@@ -225,7 +225,7 @@ code_after (Event.tick reading) sound =
 pub code_run : {s : State} (es : List Event) → Sound s → (run s es).state.tag.code ≡ s.tag.code
 unfolding run
 code_run [] sound = refl
-code_run (e ∷ es) sound = code_run es (sound_after e sound) ∙ code_after e sound
+code_run {s} (e ∷ es) sound = code_run {s = after s e} es (sound_after e sound) ∙ code_after e sound
 
 -- ---- which events are accepted
 
@@ -256,4 +256,4 @@ reached_after r (Event.tick reading) =
 pub reached_run : {s : State} (es : List Event) → Reached s → Reached (run s es).state
 unfolding run
 reached_run [] r = r
-reached_run (e ∷ es) r = reached_run es (reached_after r e)
+reached_run {s} (e ∷ es) r = reached_run {s = after s e} es (reached_after r e)

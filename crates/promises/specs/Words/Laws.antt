@@ -87,7 +87,7 @@ unfolding remainder crc_bits bits_of
 remainder_is v fits small [] = refl
 remainder_is v {mask} {r} fits small (b ∷ bits) =
     ap (λ (rest : List Bool). remainder (bits_of (suc v) mask) rest bits) (remainder_step v mask small b)
-    ∙ remainder_is v fits (bit_lt (suc v) fits b small) bits
+    ∙ remainder_is v {r = crc_bit mask r b} fits (bit_lt (suc v) fits b small) bits
 
 -- a run of bytes is that of their bits
 pub crc_slots : (mask r : ℕ) (bytes : List ℕ) → crc_run mask r bytes ≡ crc_bits mask r (slots_of bytes)

@@ -47,7 +47,7 @@ ticks_go {s} solid clear runs (r ∷ rs) =
       store = λ before done. absurd (let same = exchange_stays solid r in let no : ◌≡◌ {A = ℕ} 0 1 = cc in omega arith);
       clear = stays;
     } in
-    (record { spares = spares; goes = goes }, ticks_go (solid_after solid (Event.tick r)) stays goes rs)
+    (record { spares = spares; goes = goes }, ticks_go {s = after s (Event.tick r)} (solid_after solid (Event.tick r)) stays goes rs)
 
 -- and with valid readings are its ticks
 abbrev pub valid : List ℕ → Bool
@@ -57,9 +57,9 @@ valid (r ∷ rs) = leb r 2047 && valid rs
 pub ticks_all : {s : State} → Solid s → Registers.mip s.image ≡ true → (rs : List ℕ) → T (valid rs) → mission_ticks s (map Event.tick rs) ≡ rs
 unfolding mission_ticks bit flag_at bit_of
 ticks_all solid runs [] small = refl
-ticks_all solid runs (r ∷ rs) small =
+ticks_all {s} solid runs (r ∷ rs) small =
     rw (runs, le-leb r 2047 (leb→le r 2047 (and_l (leb r 2047) (valid rs) small)))
-    (ap (◌∷◌ r) (ticks_all (solid_after solid (Event.tick r)) (bit_stays solid r 1 tt tt ∙ runs) rs (and_r (leb r 2047) (valid rs) small)))
+    (ap (◌∷◌ r) (ticks_all {s = after s (Event.tick r)} (solid_after solid (Event.tick r)) (bit_stays solid r 1 tt tt ∙ runs) rs (and_r (leb r 2047) (valid rs) small)))
 
 -- ---- the mission's
 

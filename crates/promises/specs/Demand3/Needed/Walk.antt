@@ -29,6 +29,7 @@ use Rattle.promises.specs.Demand3.Reset.{begins_guarded}
 use Rattle.promises.specs.Demand3.Slot.{conditional_is}
 use Rattle.promises.specs.Runs.{State, Event, after, run, Always, Together, OnSlots}
 use Rattle.promises.specs.Runs.Laws.{slot_happens, reset_happens, short_happens, always_map, on_slots}
+use Rattle.promises.specs.Sentences.Choosing.{alarm}
 
 -- ---- what is computed
 
@@ -184,7 +185,7 @@ unconditional_agree s [] t [] none alike = tt
 unconditional_agree s [] t (f ∷ fs) none alike = absurd alike
 unconditional_agree s (e ∷ es) t [] none alike = absurd alike
 unconditional_agree s (e ∷ es) t (f ∷ fs) none alike =
-    (on_slots (λ u bit never conditional. absurd (never conditional)) s e none.0, unconditional_agree (after s e) es (after t f) fs none.1 alike.1)
+    (on_slots {P = λ u bit. Conditional u.tag.exchange bit → ⊥} {Q = λ u bit. Conditional u.tag.exchange bit → alarm s ≡ alarm t} (λ u bit never conditional. absurd (never conditional)) s e none.0, unconditional_agree (after s e) es (after t f) fs none.1 alike.1)
 
 -- any two tags, and one field that is none of their passwords
 pub harmless_premises : (s t : State) (E F : List Event) (wrong : ℕ) → Begins s t E F →

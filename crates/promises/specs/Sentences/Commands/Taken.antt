@@ -67,7 +67,8 @@ tick_exchange {s} sound reading =
 ticks_exchange : {s : State} → Sound s → (readings : List ℕ) → (run s (map Event.tick readings)).state.tag.exchange ≡ s.tag.exchange
 unfolding run
 ticks_exchange sound [] = refl
-ticks_exchange sound (reading ∷ readings) = ticks_exchange (sound_after (Event.tick reading) sound) readings ∙ tick_exchange sound reading
+ticks_exchange {s} sound (reading ∷ readings) =
+    ticks_exchange {s = after s (Event.tick reading)} (sound_after (Event.tick reading) sound) readings ∙ tick_exchange sound reading
 
 -- ---- a slot of a chosen tag
 

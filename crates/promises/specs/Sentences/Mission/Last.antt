@@ -30,14 +30,14 @@ pub reads_last : {s : State} → Sound s → (events : List Event) →
 unfolding run last_reading after slotted tick_tag Mission.ticked_counters
 reads_last sound [] = refl
 reads_last {s} sound (Event.slot bit ∷ es) =
-    reads_last (sound_after (Event.slot bit) sound) es
+    reads_last {s = after s (Event.slot bit)} (sound_after (Event.slot bit) sound) es
     ∙ ap (λ (n : ℕ). last_reading n es) (rw (slot_happens sound bit) (reading_performed _ s.tag.counters s.image))
 reads_last {s} sound (Event.reset ∷ es) =
-    reads_last (sound_after Event.reset sound) es ∙ ap (λ (c : Counters). last_reading c.reading es) (reset_keeps sound).counters
+    reads_last {s = after s Event.reset} (sound_after Event.reset sound) es ∙ ap (λ (c : Counters). last_reading c.reading es) (reset_keeps sound).counters
 reads_last {s} sound (Event.short ∷ es) =
-    reads_last (sound_after Event.short sound) es ∙ ap (λ (c : Counters). last_reading c.reading es) (short_keeps sound).counters
+    reads_last {s = after s Event.short} (sound_after Event.short sound) es ∙ ap (λ (c : Counters). last_reading c.reading es) (short_keeps sound).counters
 reads_last {s} sound (Event.tick reading ∷ es) =
-    reads_last (sound_after (Event.tick reading) sound) es
+    reads_last {s = after s (Event.tick reading)} (sound_after (Event.tick reading) sound) es
     ∙ ap (λ (n : ℕ). last_reading n es)
     (dite (dec_le reading 2047) (λ small. rw (tick_happens sound reading small, le-leb reading 2047 small))
     (λ high. rw (tick_refused sound reading (omega arith), lt-leb reading 2047 (omega arith))))
