@@ -2,6 +2,7 @@
 -- all, what a refusal leaves, and that from `bagtag_line_new` on each call is `line_step` on a line whose records are the bytes lent.
 -- `library_line` in LineProof.antt proves it. Assumes nothing.
 use Rattle.std.specs.Prelude.{Bool, true, not, ◌&&◌, ◌||◌, List, [], ◌∷◌, ◌++◌, ◌≢◌, ◌≡◌, ℕ, zero, suc, ◌+◌, ◌*◌, ◌/◌, ◌≤◌, ◌<◌, min, eqb, leb, length, get_or, replicate, take, drop, if◌then◌else◌}
+use Rattle.std.specs.Borrow.{MutBor}
 use Rattle.bagtag.proofs.line.bagtag_line_event.Reads as bagtag_line_event
 use Rattle.bagtag.proofs.line.bagtag_line_new.Reads as bagtag_line_new
 use Rattle.bits.specs.Each.{each}
@@ -98,14 +99,14 @@ pub record LibraryLine : Type 2 where
       let l = leaves (new_line block.now numbers.now codes.now) in
       Keeps exit.0.now exit.1.0.now l × (count_of l ≡ length numbers.now)
   -- and each call on a line that is kept is `line_step` on it, and keeps what that leaves, whatever it answers
-  pub stepped : {l : Line} (κs : _) (block : _) (records : _) (code place reading : ℕ) (line : _) (r : ℕ) (exit : _) →
+  pub stepped : {l : Line} (κs : _) (block records : MutBor (List ℕ)) (code place reading : ℕ) (line : _) (r : ℕ) (exit : _) →
       Keeps block.now records.now l →
       bagtag_line_event.Post κs (block, (records, (count_of l, (code, (place, (reading, (line, tt))))))) r exit →
       let o = line_step l.block l.board code place reading in
       (r ≡ number_in o.shown.answer) × (exit.1.1.1.1.1.1.0.now ≡ digit_of o.shown.line)
       × Keeps exit.0.now exit.1.0.now (leaves o)
   -- so from `bagtag_line_new` on 3, 13 and 6 never come: the number is by the event's own code, place and reading
-  pub own : {l : Line} (κs : _) (block : _) (records : _) (code place reading : ℕ) (line : _) (r : ℕ) (exit : _) →
+  pub own : {l : Line} (κs : _) (block records : MutBor (List ℕ)) (code place reading : ℕ) (line : _) (r : ℕ) (exit : _) →
       Keeps block.now records.now l →
       bagtag_line_event.Post κs (block, (records, (count_of l, (code, (place, (reading, (line, tt))))))) r exit →
       r ≡ (if eqb code 3 && leb (count_of l) place then 14 else own_number code reading)

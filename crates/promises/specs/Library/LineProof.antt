@@ -1,5 +1,6 @@
 -- The library's calls to a line are the board's, through the bytes of its records. Assumes nothing.
 use Rattle.std.specs.Prelude.{Bool, ◌&&◌, ◌||◌, List, [], ◌∷◌, ◌++◌, ◌≢◌, ◌≡◌, eqb, leb, ltb, replicate, if◌then◌else◌}
+use Rattle.std.specs.Borrow.{MutBor}
 use Rattle.std.proofs.Math.Bool.{true, false, not}
 use Rattle.std.proofs.Math.Logic.{dite}
 use Rattle.std.proofs.Math.Path.{refl, subst}
@@ -318,7 +319,7 @@ new_reached : (block numbers codes : List ℕ) → answer_number (new_line block
 new_reached block numbers codes none = Reached.new block numbers codes (number_accepts none)
 
 -- and a call on a line that is kept is the board's event
-stepped : {l : Line} (κs : _) (block : _) (records : _) (code place reading : ℕ) (line : _) (r : ℕ) (exit : _) → Keeps block.now records.now l →
+stepped : {l : Line} (κs : _) (block records : MutBor (List ℕ)) (code place reading : ℕ) (line : _) (r : ℕ) (exit : _) → Keeps block.now records.now l →
     bagtag_line_event.Post κs (block, (records, (count_of l, (code, (place, (reading, (line, tt))))))) r exit →
     let o = line_step l.block l.board code place reading in
     (r ≡ number_in o.shown.answer) × (exit.1.1.1.1.1.1.0.now ≡ digit_of o.shown.line)

@@ -383,5 +383,5 @@ valid_accepted fit [] valid = tt
 valid_accepted {l} fit (e ∷ es) valid =
     let ok = fit_valid fit e valid.0 in (
       ok,
-      valid_accepted (fit_after e fit ok) es (subst (λ (n : ℕ). AllValid n es) (sym (event_remains l e).count) valid.1),
+      valid_accepted {l = after l e} (fit_after e fit ok) es (subst (λ (n : ℕ). AllValid n es) (sym (event_remains l e).count) valid.1),
     )

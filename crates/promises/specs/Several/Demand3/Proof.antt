@@ -70,7 +70,9 @@ lines_agree count s t (e ∷ es) (f ∷ fs) alike same =
     × ((alone.run (alone.run (s place) (hears place e)).state (heard place es)).line ≡ (alone.run (alone.run (t place) (hears place f)).state (heard place fs)).line) =
     λ place h. bits_then (both_hear place alike.0) (s place) (t place) (heard place es) (heard place fs) (same place h) in
     let bit = each_same count (λ place. bit_of (s place) (hears place e)) (λ place. bit_of (t place) (hears place f)) (λ place h. (apart place h).0) in
-    let rest = lines_agree count _ _ es fs alike.1 (λ place h. (apart place h).1) in
+    let rest =
+    lines_agree count (λ place. (alone.run (s place) (hears place e)).state) (λ place. (alone.run (t place) (hears place f)).state) es fs alike.1
+    (λ place h. (apart place h).1) in
     λ i. bit i ∷ rest i
 
 -- ---- every event is accepted

@@ -21,7 +21,7 @@ use Rattle.bus.specs.declared.Guarded.{Guarded}
 use Rattle.bus.specs.declared.Stage.{Stage}
 use Rattle.record.specs.Record.{good_number}
 use Rattle.tag.specs.Tag.Laws.{length_new}
-use Rattle.promises.specs.Demand3.{EndsField, Alike, NoPassword, NoneCarried, AlarmsAgree, Premises}
+use Rattle.promises.specs.Demand3.{EndsField, Conditional, Alike, NoPassword, NoneCarried, AlarmsAgree, Premises}
 use Rattle.promises.specs.Demand3.Needed.{Sometime}
 use Rattle.promises.specs.Demand3.Needed.Keys.{HasKeys, keys_stored, none_of_keys}
 use Rattle.promises.specs.Demand3.Needed.Owner.{Ready, stored, stored_owned, ready, is_ready, waiting}
@@ -36,6 +36,7 @@ use Rattle.promises.specs.Ranges.Laws.{reached_fit}
 use Rattle.promises.specs.Runs as alone
 use Rattle.promises.specs.Runs.{State, Event}
 use Rattle.promises.specs.Runs.Laws.{always_map, all_slots}
+use Rattle.promises.specs.Sentences.Choosing.{alarm}
 use Rattle.promises.specs.Sentences.Events.{clear_tag}
 use Rattle.promises.specs.Several.{Line, LineEvent, FitLine, tag_at, heard, Unselected, Elsewhere}
 use Rattle.promises.specs.Several.Demand3 as line
@@ -175,7 +176,8 @@ next_aside =
 
 -- so no field ends there
 unselected_none : (image : List ℕ) (u : State) (e : Event) → Unselected u e → NoPassword image u e
-unselected_none image u e other = all_slots _ u e (λ bit field ends. absurd (other ends.chosen))
+unselected_none image u e other =
+    all_slots (λ v bit. (f : ℕ) → EndsField v.tag.exchange bit f → (f ≢ words.word_at image 0x0228 8) × (f ≢ words.word_at image 0x0230 8)) u e (λ bit field ends. absurd (other ends.chosen))
 
 next_fields : NoneCarried neighbour neighbour next_hears next_hears
 next_fields =
@@ -186,7 +188,8 @@ next_fields =
 agree_same : (s : State) (es : List Event) → alone.Together AlarmsAgree s es s es
 unfolding alone.Together
 agree_same s [] = tt
-agree_same s (e ∷ es) = (all_slots _ s e (λ bit asked. refl), agree_same (alone.after s e) es)
+agree_same s (e ∷ es) =
+    (all_slots (λ u bit. Conditional u.tag.exchange bit → alarm s ≡ alarm s) s e (λ bit asked. refl), agree_same (alone.after s e) es)
 
 -- ---- the first tag
 
