@@ -8,7 +8,7 @@ use Rattle.std.proofs.Math.Decide.{dec_le}
 use Rattle.std.proofs.Math.ListN.{get_or}
 use Rattle.std.proofs.lemmas.List.{length-map}
 use Rattle.std.proofs.Math.Seq.{sets}
-use Rattle.batch.specs.Batch.{Course, Listed, replied, listed}
+use Rattle.batch.specs.Batch.{Course, Listed, listed}
 use Rattle.batch.specs.Batch.Laws.{list_few, list_taken}
 use Rattle.batch.specs.Batch.Cuts.{joined, course_length, course_in_range, list_append}
 use Rattle.bits.specs.Bits.{digit}

@@ -252,14 +252,17 @@ stopped_run : {start : List ℕ} {es : List Conversion} {s : State} (events : Li
 unfolding run Always mission_ticks Words.bit flag_at bit_of
 stopped_run [] solid h always = (h.listed, refl)
 stopped_run {s = s} (Event.tick reading ∷ events) solid h always =
-    let rest = stopped_run {s = after s (Event.tick reading)} events (solid_after solid (Event.tick reading)) (stopped_after solid (Event.tick reading) always.0 h) always.1 in
+    let rest =
+    stopped_run {s = after s (Event.tick reading)} events (solid_after solid (Event.tick reading))
+    (stopped_after solid (Event.tick reading) always.0 h) always.1 in
     (rest.0, rw h.mip rest.1)
 stopped_run {s = s} (Event.reset ∷ events) solid h always =
     stopped_run {s = after s Event.reset} events (solid_after solid Event.reset) (stopped_after solid Event.reset always.0 h) always.1
 stopped_run {s = s} (Event.short ∷ events) solid h always =
     stopped_run {s = after s Event.short} events (solid_after solid Event.short) (stopped_after solid Event.short always.0 h) always.1
 stopped_run {s = s} (Event.slot bit ∷ events) solid h always =
-    stopped_run {s = after s (Event.slot bit)} events (solid_after solid (Event.slot bit)) (stopped_after solid (Event.slot bit) always.0 h) always.1
+    stopped_run {s = after s (Event.slot bit)} events (solid_after solid (Event.slot bit))
+    (stopped_after solid (Event.slot bit) always.0 h) always.1
 
 stop_deed : (deed : Deed) → is_stop deed ≡ true → deed ≡ Deed.Stop
 unfolding is_stop

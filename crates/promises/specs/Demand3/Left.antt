@@ -227,12 +227,14 @@ module _ (Q : List ℕ → List ℕ → Type 0) (P : State → Bool → Type 0)
       Beside Q image (run s E).state (run t (ticks_of E)).state
   unfolding run ticks_of Always
   beside_run [] b wrong p = b
-  beside_run {s} {t} (Event.slot bit ∷ E) b wrong p = beside_run {s = after s (Event.slot bit)} {t = t} E (beside_slot bit b wrong.0 p.0) wrong.1 p.1
+  beside_run {s} {t} (Event.slot bit ∷ E) b wrong p =
+      beside_run {s = after s (Event.slot bit)} {t = t} E (beside_slot bit b wrong.0 p.0) wrong.1 p.1
   beside_run {s} {t} (Event.reset ∷ E) b wrong p =
       beside_run {s = after s Event.reset} {t = t} E (beside_kept b (reset_guards b.guards) (reset_keeps b.guards.sound)) wrong.1 p.1
   beside_run {s} {t} (Event.short ∷ E) b wrong p =
       beside_run {s = after s Event.short} {t = t} E (beside_kept b (short_guards b.guards) (short_keeps b.guards.sound)) wrong.1 p.1
-  beside_run {s} {t} (Event.tick reading ∷ E) b wrong p = beside_run {s = after s (Event.tick reading)} {t = after t (Event.tick reading)} E (beside_tick reading b) wrong.1 p.1
+  beside_run {s} {t} (Event.tick reading ∷ E) b wrong p =
+      beside_run {s = after s (Event.tick reading)} {t = after t (Event.tick reading)} E (beside_tick reading b) wrong.1 p.1
 
 -- ---- no Forced Conversion is done
 

@@ -319,7 +319,8 @@ new_reached : (block numbers codes : List ℕ) → answer_number (new_line block
 new_reached block numbers codes none = Reached.new block numbers codes (number_accepts none)
 
 -- and a call on a line that is kept is the board's event
-stepped : {l : Line} (κs : _) (block records : MutBor (List ℕ)) (code place reading : ℕ) (line : _) (r : ℕ) (exit : _) → Keeps block.now records.now l →
+stepped : {l : Line} (κs : _) (block records : MutBor (List ℕ)) (code place reading : ℕ) (line : _) (r : ℕ) (exit : _) →
+    Keeps block.now records.now l →
     bagtag_line_event.Post κs (block, (records, (count_of l, (code, (place, (reading, (line, tt))))))) r exit →
     let o = line_step l.block l.board code place reading in
     (r ≡ number_in o.shown.answer) × (exit.1.1.1.1.1.1.0.now ≡ digit_of o.shown.line)

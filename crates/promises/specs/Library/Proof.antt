@@ -4,7 +4,7 @@ use Rattle.std.proofs.Math.Bool.{true, false, not}
 use Rattle.std.proofs.Common.{append_assoc, sym, subst, ◌∙◌, arith}
 use Rattle.std.proofs.Math.Logic.{dite}
 use Rattle.std.proofs.Math.Path.{refl, ap}
-use Prim.Native.Nat.{ℕ, suc, ◌+◌, ◌-◌, ◌*◌, ◌≤◌, ◌<◌}
+use Prim.Native.Nat.{ℕ, suc, ◌+◌, ◌*◌, ◌≤◌, ◌<◌}
 use Rattle.std.proofs.Math.Decide.{ℕ_discrete, dec_le}
 use borrow.Author.Tests.{eq-eqb, ne_eqb, lt-ltb, le-ltb}
 use Rattle.std.proofs.Math.Dec.{eqb, ltb}
@@ -16,7 +16,7 @@ use Rattle.answer.specs.declared.Answer.{Answer}
 use Rattle.bagtag.proofs.bagtag_event.Reads as bagtag_event
 use Rattle.bagtag.proofs.bagtag_events.Reads as bagtag_events
 use Rattle.bagtag.proofs.bagtag_new.Reads as bagtag_new
-use Rattle.bagtag.specs.Bagtag.{New, Event, Events, Listed, made, new_call, no_event, stepped, event_call, done, events_call, counts_of, head_of, HeadFits, room_number, list_call}
+use Rattle.bagtag.specs.Bagtag.{New, Event, Events, Listed, new_call, no_event, stepped, event_call, done, events_call, counts_of, head_of, HeadFits, room_number, list_call}
 use Rattle.bagtag.specs.Bagtag.Laws.{new_made, new_image_lem, new_lent, event_image, event_lent, event_step, events_room, events_image, events_lent, events_done, room_any, list_short, list_accepted, list_refused}
 use Rattle.batch.specs.Batch.{listed}
 use Rattle.batch.specs.Batch.Laws as laws

@@ -26,7 +26,7 @@ use Rattle.select.specs.Runs.{match_byte, search_with, search_answers}
 use Rattle.select.specs.Runs.Laws.{follows, run_append, run_silent, after_command, searching, told_wrong, match_lt, rom_match, length_search, run_match_other, run_search}
 use Rattle.select.specs.Runs.Through.{Lasts, choosing_while, choosing_append, choosing_through}
 use Rattle.promises.specs.Line.Slots.{answers_of, after_reset, with_exchange, slots_quiet, run_slots, run_reset}
-use Rattle.promises.specs.Runs.{State, Event, Ran, run}
+use Rattle.promises.specs.Runs.{State, Event, run}
 use Rattle.promises.specs.Runs.Laws.{Sound}
 use Rattle.promises.specs.Sentences.Choosing.{alarm}
 use Rattle.promises.specs.Words.{bit_at, number_of, mark_of}

@@ -123,7 +123,8 @@ speed_run sound (Event.reset ∷ events) none = absurd none
 speed_run {s} sound (Event.tick reading ∷ events) none =
     speed_run {s = after s (Event.tick reading)} (sound_after (Event.tick reading) sound) events none
     ∙ ap (λ (x : Exchange). leads x.select.choosing x.number (slots_in events) || speed_in x.select.mode) (tick_exchange sound reading)
-speed_run {s} sound (Event.short ∷ events) none = by (speed_of s) refl (speed_run {s = after s Event.short} (sound_after Event.short sound) events none)
+speed_run {s} sound (Event.short ∷ events) none =
+    by (speed_of s) refl (speed_run {s = after s Event.short} (sound_after Event.short sound) events none)
   where
     bits : List Bool
     bits = slots_in events

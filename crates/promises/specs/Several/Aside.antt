@@ -71,13 +71,15 @@ aside_run : {s t : State} → Sound s → Sound t → Kept t s → (es : List Ev
 unfolding run ticks_of Always
 aside_run sound-s sound-t kept [] never = kept
 aside_run {s} {t} sound-s sound-t kept (Event.slot bit ∷ es) never =
-    aside_run {s = after s (Event.slot bit)} {t = t} (sound_after (Event.slot bit) sound-s) sound-t (kept_then kept (slot_kept sound-s bit never.0)) es never.1
+    aside_run {s = after s (Event.slot bit)} {t = t} (sound_after (Event.slot bit) sound-s) sound-t
+    (kept_then kept (slot_kept sound-s bit never.0)) es never.1
 aside_run {s} {t} sound-s sound-t kept (Event.reset ∷ es) never =
     aside_run {s = after s Event.reset} {t = t} (sound_after Event.reset sound-s) sound-t (kept_then kept (reset_keeps sound-s)) es never.1
 aside_run {s} {t} sound-s sound-t kept (Event.short ∷ es) never =
     aside_run {s = after s Event.short} {t = t} (sound_after Event.short sound-s) sound-t (kept_then kept (short_keeps sound-s)) es never.1
 aside_run {s} {t} sound-s sound-t kept (Event.tick reading ∷ es) never =
-    aside_run {s = after s (Event.tick reading)} {t = after t (Event.tick reading)} (sound_after (Event.tick reading) sound-s) (sound_after (Event.tick reading) sound-t) (tick_kept sound-s sound-t kept reading) es never.1
+    aside_run {s = after s (Event.tick reading)} {t = after t (Event.tick reading)} (sound_after (Event.tick reading) sound-s)
+    (sound_after (Event.tick reading) sound-t) (tick_kept sound-s sound-t kept reading) es never.1
 
 pub left_aside : {s : State} → Sound s → (es : List Event) → Always Unselected s es → Kept (run s (ticks_of es)).state (run s es).state
 left_aside sound es never =
@@ -106,7 +108,8 @@ away_run : {s : State} → Sound s → (es : List Event) → NoLong es → AwayF
 unfolding run Always NoLong slots_in tick_tag
 away_run sound [] none away = (tt, away)
 away_run {s} sound (Event.slot bit ∷ es) none away =
-    let rest = away_run {s = after s (Event.slot bit)} (sound_after (Event.slot bit) sound) es none (slot_away_after sound bit (slots_in es) away) in
+    let rest =
+    away_run {s = after s (Event.slot bit)} (sound_after (Event.slot bit) sound) es none (slot_away_after sound bit (slots_in es) away) in
     ((away_unchosen away, rest.0), rest.1)
 away_run sound (Event.reset ∷ es) none away = absurd none
 away_run {s} sound (Event.short ∷ es) none away =

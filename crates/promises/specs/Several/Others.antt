@@ -176,7 +176,8 @@ silent_run {s} fit silent slow (Event.short ∷ es) none =
     subst (λ (u : State). Silent (alone.run u es).state) (sym (overdrive.slow fit slow).1) (silent_run fit silent slow es none)
 silent_run {s} fit silent slow (Event.tick reading ∷ es) none =
     let same = events.tick_line fit reading in
-    silent_run {s = alone.after s (Event.tick reading)} (events.stays_fit (Event.tick reading) fit) (ap (λ (x : Exchange). x.select.choosing) same ∙ silent)
+    silent_run {s = alone.after s (Event.tick reading)} (events.stays_fit (Event.tick reading) fit)
+    (ap (λ (x : Exchange). x.select.choosing) same ∙ silent)
     (ap (λ (x : Exchange). speed_in x.select.mode) same ∙ slow) es none
 
 silent_still : {s : State} → Fit s → Silent s → (es : List Event) → NoLong es → NoShort es → Silent (alone.run s es).state
@@ -188,7 +189,8 @@ silent_still {s} fit silent (Event.slot bit ∷ es) none still =
 silent_still fit silent (Event.reset ∷ es) none still = absurd none
 silent_still fit silent (Event.short ∷ es) none still = absurd still
 silent_still {s} fit silent (Event.tick reading ∷ es) none still =
-    silent_still {s = alone.after s (Event.tick reading)} (events.stays_fit (Event.tick reading) fit) (ap (λ (x : Exchange). x.select.choosing) (events.tick_line fit reading) ∙ silent) es none still
+    silent_still {s = alone.after s (Event.tick reading)} (events.stays_fit (Event.tick reading) fit)
+    (ap (λ (x : Exchange). x.select.choosing) (events.tick_line fit reading) ∙ silent) es none still
 
 -- the slots after Skip go to a tag that is chosen, with the image that it had
 skip_image : {s : State} → Fit s → (byte : ℕ) → among (0xCC ∷ 0x3C ∷ []) byte ≡ true →

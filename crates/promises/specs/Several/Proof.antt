@@ -26,7 +26,6 @@ use Rattle.promises.specs.Ranges.Laws.{fit_sound, fit_run, reached_fit}
 use Rattle.promises.specs.Runs as alone
 use Rattle.promises.specs.Runs.{State, Event}
 use Rattle.promises.specs.Runs.Laws.{number_run, reached_run}
-use Rattle.promises.specs.Sentences.Choosing.Proof.{choosing}
 use Rattle.promises.specs.Sentences.Events as events
 use Rattle.promises.specs.Sentences.Events.{number_in, own_number, clear_tag}
 use Rattle.promises.specs.Sentences.Events.Proof as events-proof

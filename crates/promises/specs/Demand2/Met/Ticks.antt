@@ -59,7 +59,9 @@ unfolding mission_ticks bit flag_at bit_of
 ticks_all solid runs [] small = refl
 ticks_all {s} solid runs (r ∷ rs) small =
     rw (runs, le-leb r 2047 (leb→le r 2047 (and_l (leb r 2047) (valid rs) small)))
-    (ap (◌∷◌ r) (ticks_all {s = after s (Event.tick r)} (solid_after solid (Event.tick r)) (bit_stays solid r 1 tt tt ∙ runs) rs (and_r (leb r 2047) (valid rs) small)))
+    (ap (◌∷◌ r)
+    (ticks_all {s = after s (Event.tick r)} (solid_after solid (Event.tick r)) (bit_stays solid r 1 tt tt ∙ runs) rs
+    (and_r (leb r 2047) (valid rs) small)))
 
 -- ---- the mission's
 

@@ -185,7 +185,10 @@ unconditional_agree s [] t [] none alike = tt
 unconditional_agree s [] t (f ∷ fs) none alike = absurd alike
 unconditional_agree s (e ∷ es) t [] none alike = absurd alike
 unconditional_agree s (e ∷ es) t (f ∷ fs) none alike =
-    (on_slots {P = λ u bit. Conditional u.tag.exchange bit → ⊥} {Q = λ u bit. Conditional u.tag.exchange bit → alarm s ≡ alarm t} (λ u bit never conditional. absurd (never conditional)) s e none.0, unconditional_agree (after s e) es (after t f) fs none.1 alike.1)
+    let agree : AlarmsAgree s e t f =
+    on_slots {P = λ u bit. Conditional u.tag.exchange bit → ⊥} {Q = λ u bit. Conditional u.tag.exchange bit → alarm s ≡ alarm t}
+    (λ u bit never conditional. absurd (never conditional)) s e none.0 in
+    (agree, unconditional_agree (after s e) es (after t f) fs none.1 alike.1)
 
 -- any two tags, and one field that is none of their passwords
 pub harmless_premises : (s t : State) (E F : List Event) (wrong : ℕ) → Begins s t E F →

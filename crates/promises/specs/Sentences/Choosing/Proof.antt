@@ -22,7 +22,7 @@ use Rattle.promises.specs.Runs.{State, Event, Ran, run}
 use Rattle.promises.specs.Runs.Laws.{run_append}
 use Rattle.promises.specs.Sentences.Choosing.{rom, Gives, Chooses, Silences, alarm, Choosing}
 use Rattle.promises.specs.Sentences.Choosing.Modes.{mode_stays}
-use Rattle.promises.specs.Words.{among, low, number_of, mark_of}
+use Rattle.promises.specs.Words.{among, number_of, mark_of}
 use Rattle.promises.specs.Words.Laws.{bit_is, low_is, mark_is, speed_is}
 
 -- one of the two Matches

@@ -12,7 +12,7 @@ use Rattle.bus.specs.declared.Held.{Held}
 use Rattle.select.specs.declared.Mode.{Mode}
 use Rattle.promises.specs.Ranges.{Fit}
 use Rattle.promises.specs.Ranges.Laws.{fit_sound}
-use Rattle.promises.specs.Runs.{State, run}
+use Rattle.promises.specs.Runs.{State}
 use Rattle.promises.specs.Line.Slots.{slots, run_slots, slots_quiet, slots_then, answers_of, with_exchange}
 use Rattle.promises.specs.Sentences.Commands.{sent, head_of}
 use Rattle.promises.specs.Words as words

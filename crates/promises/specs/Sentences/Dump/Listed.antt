@@ -21,7 +21,7 @@ use Rattle.dump.specs.Check.Laws.{check_lines_lem}
 use Rattle.dump.specs.Check.Unique.{accepted_length}
 use Rattle.dump.specs.Lines.{bytes_from, dumped_at}
 use Rattle.promises.specs.Sentences.Dump.{lines_number, dumped, dump_number, zero_counts, listed_by}
-use Rattle.promises.specs.Sentences.Listing.{entries, places, held, cannot_be, content_number, reading_at, temperature_at, seconds_for}
+use Rattle.promises.specs.Sentences.Listing.{entries, held, cannot_be, content_number, reading_at, temperature_at, seconds_for}
 use Rattle.promises.specs.Sentences.Dump.Lines.{first_number, all_number, dumped_is}
 use Rattle.promises.specs.Sentences.Events.{number_in}
 use Rattle.promises.specs.Sentences.Events.Proof.{numbered, number_accepts}

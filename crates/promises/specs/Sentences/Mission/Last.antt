@@ -33,9 +33,11 @@ reads_last {s} sound (Event.slot bit ∷ es) =
     reads_last {s = after s (Event.slot bit)} (sound_after (Event.slot bit) sound) es
     ∙ ap (λ (n : ℕ). last_reading n es) (rw (slot_happens sound bit) (reading_performed _ s.tag.counters s.image))
 reads_last {s} sound (Event.reset ∷ es) =
-    reads_last {s = after s Event.reset} (sound_after Event.reset sound) es ∙ ap (λ (c : Counters). last_reading c.reading es) (reset_keeps sound).counters
+    reads_last {s = after s Event.reset} (sound_after Event.reset sound) es
+    ∙ ap (λ (c : Counters). last_reading c.reading es) (reset_keeps sound).counters
 reads_last {s} sound (Event.short ∷ es) =
-    reads_last {s = after s Event.short} (sound_after Event.short sound) es ∙ ap (λ (c : Counters). last_reading c.reading es) (short_keeps sound).counters
+    reads_last {s = after s Event.short} (sound_after Event.short sound) es
+    ∙ ap (λ (c : Counters). last_reading c.reading es) (short_keeps sound).counters
 reads_last {s} sound (Event.tick reading ∷ es) =
     reads_last {s = after s (Event.tick reading)} (sound_after (Event.tick reading) sound) es
     ∙ ap (λ (n : ℕ). last_reading n es)

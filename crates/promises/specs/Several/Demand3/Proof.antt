@@ -9,7 +9,7 @@ use Rattle.promises.specs.Demand3.{Premises, Conclusions}
 use Rattle.promises.specs.Demand3.Proof as demand3-proof
 use Rattle.promises.specs.Runs as alone
 use Rattle.promises.specs.Runs.{State, Event}
-use Rattle.promises.specs.Several.{Line, LineEvent, count_of, tag_at, run, hears, heard, bit_of, line_of, Valid}
+use Rattle.promises.specs.Several.{Line, LineEvent, count_of, tag_at, hears, heard, bit_of, line_of, Valid}
 use Rattle.promises.specs.Several.Demand3.{Alike, AllAlike, LinePremises, LineDemand3}
 use Rattle.promises.specs.Several.Laws.{run_tag, run_line}
 use Rattle.promises.specs.Several.Proof.{AllValid, valid_accepted}
@@ -71,8 +71,8 @@ lines_agree count s t (e ∷ es) (f ∷ fs) alike same =
     λ place h. bits_then (both_hear place alike.0) (s place) (t place) (heard place es) (heard place fs) (same place h) in
     let bit = each_same count (λ place. bit_of (s place) (hears place e)) (λ place. bit_of (t place) (hears place f)) (λ place h. (apart place h).0) in
     let rest =
-    lines_agree count (λ place. (alone.run (s place) (hears place e)).state) (λ place. (alone.run (t place) (hears place f)).state) es fs alike.1
-    (λ place h. (apart place h).1) in
+    lines_agree count (λ place. (alone.run (s place) (hears place e)).state) (λ place. (alone.run (t place) (hears place f)).state) es fs
+    alike.1 (λ place h. (apart place h).1) in
     λ i. bit i ∷ rest i
 
 -- ---- every event is accepted

@@ -28,7 +28,7 @@ use Rattle.promises.specs.Demand3.Needed.Owner.{Ready, stored, stored_owned, rea
 use Rattle.promises.specs.Demand3.Needed.Proof.{wrong_first, wrong_second}
 use Rattle.promises.specs.Demand3.Needed.Stranger.{wrong, field, field_seen, ends_seen, readings_differ}
 use Rattle.promises.specs.Demand3.Needed.Tags.{pad, number, fresh, made_with, with_owned, fresh_off, fresh_idle, first, second, first_prepared, second_prepared}
-use Rattle.promises.specs.Demand3.Needed.Walk.{harmless, asks_harmless, denied, harmless_all, denied_all, NoneOf, denies_run, harmless_premises}
+use Rattle.promises.specs.Demand3.Needed.Walk.{harmless, asks_harmless, denied, harmless_all, denied_all, denies_run, harmless_premises}
 use Rattle.promises.specs.Demand3.Reset.{reset_reached, reset_sound, begins_alike, begins_guarded}
 use Rattle.promises.specs.Overdrive.{NoLong, slots_in}
 use Rattle.promises.specs.Ranges.{Fit}
@@ -177,7 +177,9 @@ next_aside =
 -- so no field ends there
 unselected_none : (image : List ℕ) (u : State) (e : Event) → Unselected u e → NoPassword image u e
 unselected_none image u e other =
-    all_slots (λ v bit. (f : ℕ) → EndsField v.tag.exchange bit f → (f ≢ words.word_at image 0x0228 8) × (f ≢ words.word_at image 0x0230 8)) u e (λ bit field ends. absurd (other ends.chosen))
+    all_slots
+    (λ v bit. (f : ℕ) → EndsField v.tag.exchange bit f → (f ≢ words.word_at image 0x0228 8) × (f ≢ words.word_at image 0x0230 8)) u e
+    (λ bit field ends. absurd (other ends.chosen))
 
 next_fields : NoneCarried neighbour neighbour next_hears next_hears
 next_fields =
