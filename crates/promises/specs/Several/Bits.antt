@@ -1,5 +1,5 @@
 -- The bits of a line, and that its tags go in step: from a new line on none listens while another sends. Assumes nothing.
-use Rattle.std.specs.Prelude.{◌≡◌, refl, Bool, true, false, not, [], ◌∷◌, ◌≢◌, ℕ, ◌<◌, eqb, if◌then◌else◌}
+use Rattle.std.specs.Prelude.{◌≡◌, refl, Bool, true, false, not, [], ◌∷◌, ℕ, ◌<◌, eqb, if◌then◌else◌}
 use Rattle.std.proofs.Common.{sym, ap, subst, ◌∙◌, true≢false, inl}
 use Rattle.bits.specs.Each.{each, each_false, each_fails, each_same}
 use Rattle.event.specs.Event.{slotted, reset_tag, short_tag, tick_tag}

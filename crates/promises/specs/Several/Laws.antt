@@ -19,7 +19,7 @@ use Rattle.tag.specs.Tag.Laws.{step_taken}
 use Rattle.promises.specs.Runs as alone
 use Rattle.promises.specs.Runs.{State, Event}
 use Rattle.promises.specs.Runs.Laws.{Sound, run_append, tick_happens}
-use Rattle.promises.specs.Several.{Line, count_of, tag_at, Seven, LineEvent, code_of, place_of, reading_of, leaves, after, line_bit, Accepts, Ran, run, AllAccepted, hears, heard, bit_of, line_of}
+use Rattle.promises.specs.Several.{Line, count_of, tag_at, Seven, LineEvent, code_of, place_of, reading_of, after, line_bit, Accepts, run, AllAccepted, hears, heard, bit_of, line_of}
 
 -- ---- a line as `board` has it
 
