@@ -16,14 +16,14 @@ const IMAGE: usize = 8832;
 
 // A line's records; those from the count on are not looked at. They come first, since the compiler then copies them once less on their
 // way in and out of an event (bench/README.md).
-#[derive(Drop)]
+#[derive(Clone, Copy)]
 pub struct Board {
     pub tags: [Tag; 7],
     pub count: u8,
 }
 
 // What a call answers: the line's records, the number's case, and the line bit.
-#[derive(Drop)]
+#[derive(Clone, Copy)]
 pub struct Shown {
     pub board: Board,
     pub answer: Answer,
