@@ -1,0 +1,12 @@
+-- `board::is_high` meets its contract. Assumes nothing.
+use borrow.Author.Tests.{eq-eqb, ne_eqb}
+use Rattle.board.specs.Board.{is_high}
+use Rattle.board.proofs.is_high.Goals as goal
+
+pub returns-then-code-eq3 : goal.returns-then-code-eq3
+unfolding is_high
+returns-then-code-eq3 c = simp (eq-eqb _ _ c.if-code-eq3.true)
+
+pub returns-else-code-eq3 : goal.returns-else-code-eq3
+unfolding is_high
+returns-else-code-eq3 c = simp (ne_eqb _ _ c.if-code-eq3.false)
