@@ -5,6 +5,7 @@ ghost use Rattle.dump.specs.Lines.{memory_at};
 ghost use Rattle.dock.specs.Registers.{rate, ehss, etl, tlfs, ro, suta, tlf, thf, memclr, stamp, mission_samples, code};
 
 // All sixteen bits.
+#[tactic(auto, unfolding(crate::specs::Registers::word_at))]
 pub(crate) fn rate(memory: &[u8]) -> u16
     ensures { result ≡ rate (memory_at memory.now) }
 {
@@ -59,6 +60,7 @@ pub(crate) fn memclr(memory: &[u8]) -> bool
     flag(memory, 0x0215, 3)
 }
 
+#[tactic(auto, unfolding(dump::specs::Lines::bytes_from))]
 pub(crate) fn stamp(memory: &[u8]) -> [u8; 6]
     ensures { result ≡ stamp (memory_at memory.now) }
 {
@@ -71,6 +73,7 @@ pub(crate) fn stamp(memory: &[u8]) -> [u8; 6]
     [seconds, minutes, hours, date, month, year]
 }
 
+#[tactic(auto, unfolding(crate::specs::Registers::word_at))]
 pub(crate) fn mission_samples(memory: &[u8]) -> u32
     ensures { result ≡ mission_samples (memory_at memory.now) }
 {
