@@ -1,7 +1,7 @@
 -- `dump::read_text` meets its contract: a text of another length or with a pair that is no byte is refused, and what is read of any other
 -- decides by the four tests that are left. Assumes nothing.
-use Rattle.std.proofs.Common.{ℕ, ◌≡◌, ◌-◌, ◌*◌, ◌≤◌, length-set, ◌&&◌, not, false, eqb, List, length, get_or, take, refl, sym, ◌∙◌, eq-eqb}
-use borrow.Author.Tests.{ne_eqb}
+use Rattle.std.proofs.Common.{ℕ, ◌≡◌, ◌-◌, ◌*◌, ◌≤◌, length-set, ◌&&◌, not, false, eqb, List, length, get_or, take, refl, sym, ◌∙◌, arith, eq-eqb}
+use Rattle.std.proofs.lemmas.Grind.{common_steps}
 use Rattle.std.proofs.lemmas.List.Edits.{sets}
 use Rattle.std.specs.Prelude.{if◌then◌else◌}
 use Rattle.answer.specs.Answer.{answer_number}
@@ -80,8 +80,7 @@ returns-then-end-ne10 c =
     let tests =
     decides a.text.now c.loop-i.bytes a.page c.loop-i.i c.if-text-ne-LINE.false c.loop-i-test.false c.loop-i.invariant
     c.page_in-shown.ensures c.crc_in-crc.ensures c.sent_low-low.ensures c.sent_high-high.ensures in
-    refuses a.text.now a.memory.now a.page a.at
-    (tests ∙ simp (ne_eqb _ _ c.if-end-ne10.true)) refl
+    refuses a.text.now a.memory.now a.page a.at (tests ∙ grind (arith, common_steps)) refl
 
 pub returns-then-shown-page : goal.returns-then-shown-page
 returns-then-shown-page c =
@@ -89,8 +88,7 @@ returns-then-shown-page c =
     let tests =
     decides a.text.now c.loop-i.bytes a.page c.loop-i.i c.if-text-ne-LINE.false c.loop-i-test.false c.loop-i.invariant
     c.page_in-shown.ensures c.crc_in-crc.ensures c.sent_low-low.ensures c.sent_high-high.ensures in
-    refuses a.text.now a.memory.now a.page a.at
-    (tests ∙ simp (eq-eqb _ _ c.if-end-ne10.false, ne_eqb _ _ c.if-shown-page.true)) refl
+    refuses a.text.now a.memory.now a.page a.at (tests ∙ grind (arith, common_steps)) refl
 
 pub returns-then-bytes-low : goal.returns-then-bytes-low
 returns-then-bytes-low c =
@@ -98,8 +96,7 @@ returns-then-bytes-low c =
     let tests =
     decides a.text.now c.loop-i.bytes a.page c.loop-i.i c.if-text-ne-LINE.false c.loop-i-test.false c.loop-i.invariant
     c.page_in-shown.ensures c.crc_in-crc.ensures c.sent_low-low.ensures c.sent_high-high.ensures in
-    refuses a.text.now a.memory.now a.page a.at
-    (tests ∙ simp (eq-eqb _ _ c.if-end-ne10.false, eq-eqb _ _ c.if-shown-page.false, ne_eqb _ _ c.if-bytes-low.true)) refl
+    refuses a.text.now a.memory.now a.page a.at (tests ∙ grind (arith, common_steps)) refl
 
 pub returns-then-bytes-high : goal.returns-then-bytes-high
 returns-then-bytes-high c =
@@ -107,8 +104,7 @@ returns-then-bytes-high c =
     let tests =
     decides a.text.now c.loop-i.bytes a.page c.loop-i.i c.if-text-ne-LINE.false c.loop-i-test.false c.loop-i.invariant
     c.page_in-shown.ensures c.crc_in-crc.ensures c.sent_low-low.ensures c.sent_high-high.ensures in
-    refuses a.text.now a.memory.now a.page a.at
-    (tests ∙ simp (eq-eqb _ _ c.if-end-ne10.false, eq-eqb _ _ c.if-shown-page.false, eq-eqb _ _ c.if-bytes-low.false, ne_eqb _ _ c.if-bytes-high.true)) refl
+    refuses a.text.now a.memory.now a.page a.at (tests ∙ grind (arith, common_steps)) refl
 
 pub returns-else-bytes-high : goal.returns-else-bytes-high
 returns-else-bytes-high c =
@@ -116,7 +112,6 @@ returns-else-bytes-high c =
     let tests =
     decides a.text.now c.loop-i.bytes a.page c.loop-i.i c.if-text-ne-LINE.false c.loop-i-test.false c.loop-i.invariant
     c.page_in-shown.ensures c.crc_in-crc.ensures c.sent_low-low.ensures c.sent_high-high.ensures in
-    let ok : check_text a.text.now a.page ≡ Accepted =
-    tests ∙ simp (eq-eqb _ _ c.if-end-ne10.false, eq-eqb _ _ c.if-shown-page.false, eq-eqb _ _ c.if-bytes-low.false, eq-eqb _ _ c.if-bytes-high.false) in
+    let ok : check_text a.text.now a.page ≡ Accepted = tests ∙ grind (arith, common_steps) in
     let read = all_read a.text.now c.loop-i.bytes c.loop-i.i c.loop-i-test.false c.loop-i.invariant in
     record { value = sym ok; memory_after = rw (c.put_data.ensures, read, text_accepted a.text.now a.page ok) }
