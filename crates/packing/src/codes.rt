@@ -33,6 +33,7 @@ pub(crate) fn choosing_codes(choosing: Choosing) -> Coded
     }
 }
 
+#[tactic(auto, unfolding(crate::specs::Codes::choosing_of))]
 pub(crate) fn choosing_of(codes: Coded) -> Choosing
     ensures { result ≡ choosing_of codes }
 {
@@ -60,6 +61,7 @@ pub(crate) fn mode_code(mode: Mode) -> u8
     }
 }
 
+#[tactic(auto, unfolding(crate::specs::Codes::mode_of))]
 pub(crate) fn mode_of(code: u8) -> Mode
     ensures { result ≡ mode_of code }
 {
@@ -73,6 +75,7 @@ pub(crate) fn mode_of(code: u8) -> Mode
 
 // ---- numbers that are a case's own
 
+#[tactic(auto, unfolding(crate::specs::Codes::same_codes))]
 pub(crate) fn same(codes: Coded, others: Coded) -> bool
     ensures { result ≡ same_codes codes others }
 {
@@ -85,18 +88,21 @@ pub(crate) fn same(codes: Coded, others: Coded) -> bool
     codes.second == others.second
 }
 
+#[tactic(auto, unfolding(crate::specs::Codes::is_choosing))]
 pub(crate) fn is_choosing(codes: Coded) -> bool
     ensures { result ≡ is_choosing codes }
 {
     same(choosing_codes(choosing_of(codes)), codes)
 }
 
+#[tactic(auto, unfolding(crate::specs::Codes::is_mode))]
 pub(crate) fn is_mode(code: u8) -> bool
     ensures { result ≡ is_mode code }
 {
     mode_code(mode_of(code)) == code
 }
 
+#[tactic(auto, unfolding(crate::specs::Codes::is_flag))]
 pub(crate) fn is_flag(code: u8) -> bool
     ensures { result ≡ is_flag code }
 {

@@ -65,6 +65,7 @@ fn put_pad(lent: &mut [u8], pad: [u8; 32])
 }
 
 // The fields of one byte.
+#[tactic(auto, unfolding(crate::specs::Packing::singles))]
 fn single_bytes(tag: Tag) -> [u8; 16]
     ensures { result ≡ singles tag }
 {
@@ -99,6 +100,7 @@ fn single_bytes(tag: Tag) -> [u8; 16]
 }
 
 // Those of two bytes.
+#[tactic(auto, unfolding(crate::specs::Packing::low_first, crate::specs::Packing::bytes_of, crate::specs::Packing::AllFit, crate::specs::Packing::pairs))]
 fn pairs(tag: Tag) -> [u8; 8]
     ensures value { result ≡ bytes_of (map pair (pairs tag)) }
     ensures all_fit { AllFit (map pair (pairs tag)) }
@@ -117,6 +119,7 @@ fn pairs(tag: Tag) -> [u8; 8]
 }
 
 // A number's bytes, low byte first.
+#[tactic(auto, unfolding(crate::specs::Packing::low_first))]
 fn two(n: u16) -> [u8; 2]
     ensures value { result ≡ low_first 2 n }
     ensures n_bound { n < 256 ^ 2 }
@@ -124,6 +127,7 @@ fn two(n: u16) -> [u8; 2]
     [(n % 256) as u8, (n / 256 % 256) as u8]
 }
 
+#[tactic(auto, unfolding(crate::specs::Packing::low_first))]
 fn eight(n: u64) -> [u8; 8]
     ensures value { result ≡ low_first 8 n }
     ensures n_bound { n < 256 ^ 8 }
@@ -164,6 +168,7 @@ pub fn put(lent: &mut [u8], at: usize, bytes: &[u8])
 // ---- unpacking
 
 // Whether these bytes are what some record packs to.
+#[tactic(auto, unfolding(crate::specs::Packing::is_packed))]
 pub fn is_packed(lent: &[u8]) -> bool
     ensures { result ≡ is_packed lent.now }
 {
@@ -187,6 +192,7 @@ pub fn is_packed(lent: &[u8]) -> bool
 
 // The record that these bytes stand for; of another number of bytes than 80, that of all zeros. What no record packs to stands for some
 // record too: `is_packed` tells them apart.
+#[tactic(auto, unfolding(crate::specs::Packing::unpacked))]
 pub fn unpack(lent: &[u8]) -> Tag
     ensures { result ≡ unpacked lent.now }
 {

@@ -10,6 +10,7 @@ use exchange::Exchange;
 use mission::Counters;
 use select::Select;
 
+#[tactic(auto, unfolding(crate::specs::Packing::counters_in))]
 pub(crate) fn counters(lent: &[u8]) -> Counters
     ensures { result ≡ counters_in lent.now }
 {
@@ -20,6 +21,7 @@ pub(crate) fn counters(lent: &[u8]) -> Counters
     }
 }
 
+#[tactic(auto, unfolding(crate::specs::Packing::exchange_in))]
 pub(crate) fn exchange(lent: &[u8]) -> Exchange
     ensures { result ≡ exchange_in lent.now }
 {
@@ -34,6 +36,7 @@ pub(crate) fn exchange(lent: &[u8]) -> Exchange
     }
 }
 
+#[tactic(auto, unfolding(crate::specs::Packing::select_in))]
 fn select(lent: &[u8]) -> Select
     ensures { result ≡ select_in lent.now }
 {
@@ -42,6 +45,7 @@ fn select(lent: &[u8]) -> Select
     Select { choosing, mode }
 }
 
+#[tactic(auto, unfolding(crate::specs::Packing::choosing_in))]
 pub(crate) fn choosing(lent: &[u8]) -> Coded
     ensures { result ≡ choosing_in lent.now }
 {
@@ -52,6 +56,7 @@ pub(crate) fn choosing(lent: &[u8]) -> Coded
     )
 }
 
+#[tactic(auto, unfolding(crate::specs::Packing::held_in))]
 fn held(lent: &[u8]) -> Held
     ensures { result ≡ held_in lent.now }
 {
@@ -77,6 +82,7 @@ fn pad(lent: &[u8]) -> [u8; 32]
     pad
 }
 
+#[tactic(auto, unfolding(crate::specs::Packing::bus_in))]
 fn bus(lent: &[u8]) -> Bus
     ensures { result ≡ bus_in lent.now }
 {
@@ -92,6 +98,7 @@ fn bus(lent: &[u8]) -> Bus
     }
 }
 
+#[tactic(auto, unfolding(crate::specs::Packing::stage_in))]
 pub(crate) fn stage(lent: &[u8]) -> Coded
     ensures { result ≡ stage_in lent.now }
 {

@@ -55,6 +55,7 @@ fn sending_codes(sending: Sending) -> Coded
     }
 }
 
+#[tactic(auto, unfolding(crate::specs::Codes::stage_of))]
 pub(crate) fn stage_of(codes: Coded) -> Stage
     ensures { result ≡ stage_of codes }
 {
@@ -77,6 +78,7 @@ pub(crate) fn stage_of(codes: Coded) -> Stage
     }
 }
 
+#[tactic(auto, unfolding(crate::specs::Codes::hearing_of))]
 fn hearing_of(first: u8, second: u8) -> Hearing
     ensures { result ≡ hearing_of first second }
 {
@@ -90,6 +92,7 @@ fn hearing_of(first: u8, second: u8) -> Hearing
     }
 }
 
+#[tactic(auto, unfolding(crate::specs::Codes::guarded_of))]
 fn guarded_of(first: u8, second: u8) -> Guarded
     ensures { result ≡ guarded_of first second }
 {
@@ -100,6 +103,7 @@ fn guarded_of(first: u8, second: u8) -> Guarded
     }
 }
 
+#[tactic(auto, unfolding(crate::specs::Codes::sending_of))]
 fn sending_of(first: u8, second: u8) -> Sending
     ensures { result ≡ sending_of first second }
 {
@@ -126,6 +130,7 @@ fn addressed_code(addressed: Addressed) -> u8
     }
 }
 
+#[tactic(auto, unfolding(crate::specs::Codes::addressed_of))]
 fn addressed_of(code: u8) -> Addressed
     ensures { result ≡ addressed_of code }
 {
@@ -147,6 +152,7 @@ fn control_code(control: Control) -> u8
     }
 }
 
+#[tactic(auto, unfolding(crate::specs::Codes::control_of))]
 fn control_of(code: u8) -> Control
     ensures { result ≡ control_of code }
 {
@@ -167,6 +173,7 @@ fn next_code(next: Next) -> u8
     }
 }
 
+#[tactic(auto, unfolding(crate::specs::Codes::next_of))]
 fn next_of(code: u8) -> Next
     ensures { result ≡ next_of code }
 {
@@ -178,6 +185,7 @@ fn next_of(code: u8) -> Next
 
 // ---- numbers that are a stage's own
 
+#[tactic(auto, unfolding(crate::specs::Codes::is_stage))]
 pub(crate) fn is_stage(codes: Coded) -> bool
     ensures { result ≡ is_stage codes }
 {

@@ -1,5 +1,5 @@
 -- The laws of packing, over a field: what is packed stands at its offset, and bytes are what the numbers in them pack to. Assumes nothing.
-use Rattle.std.specs.Prelude.{◌≡◌, refl, List, [], ◌∷◌, ◌++◌, map, ℕ, zero, suc, ◌+◌, ◌-◌, ◌*◌, ◌/◌, ◌%◌, ◌^◌, ◌<◌, length, get_or}
+use Rattle.std.specs.Prelude.{◌≡◌, refl, List, [], ◌∷◌, ◌++◌, map, ℕ, zero, suc, ◌+◌, ◌*◌, ◌/◌, ◌%◌, ◌^◌, ◌<◌, length, get_or}
 use Rattle.std.proofs.Common.{◌∙◌, ap, append_assoc, add-zero, zero-add, add-suc, suc-add, pow-suc, arith, length-append, get_or-append-add}
 use Rattle.std.proofs.lemmas.List.Edits.{sets}
 use Rattle.bits.specs.Bytes.{Bytes}
