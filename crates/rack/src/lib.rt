@@ -12,6 +12,7 @@ use packing::RECORD;
 use record::Tag;
 
 // Whether a line can have so many tags, and so many bytes are their records.
+#[tactic(auto, unfolding(crate::specs::Rack::has_room, board::specs::Board::is_count))]
 pub fn has_room(size: usize, count: usize) -> bool
     ensures { result ≡ has_room size count }
 {
@@ -44,6 +45,7 @@ pub fn is_rack(records: &[u8], count: u8) -> bool
 }
 
 // The line that these bytes stand for. A place whose record is not wholly there has that of all zeros.
+#[tactic(auto, unfolding(crate::specs::Rack::board_in))]
 pub fn unpack(records: &[u8], count: u8) -> Board
     ensures { result ≡ board_in records.now count }
 {
@@ -86,6 +88,7 @@ pub fn same_number(records: &[u8], count: u8) -> bool
     board::same_number(&numbers[..end])
 }
 
+#[tactic(auto, unfolding(crate::specs::Rack::number_held))]
 fn number_at(records: &[u8], place: u8) -> u64
     ensures { result ≡ number_held records.now place }
 {

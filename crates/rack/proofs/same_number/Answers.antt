@@ -1,0 +1,42 @@
+-- `rack::same_number` meets its contract. Assumes nothing.
+use mathlib.Core.List.{List, [], ◌∷◌}
+use mathlib.Core.Path.{◌≡◌, sym, ap, ◌∙◌}
+use Prim.Native.Nat.{ℕ, ◌≤◌}
+use native.Mathlib.Omega.{arith}
+use lib.ListN.{length, get_or, take}
+use lib.Seq.{length-take-le}
+use Rattle.board.specs.Board.{same_number}
+use Rattle.board.specs.Board.Reading.{same_read}
+use Rattle.rack.specs.Rack.{seven, number_held, whole_in, same_held}
+use Rattle.rack.specs.Rack.Laws.{seven_at, whole_some}
+use Rattle.rack.proofs.same_number.Goals as goal
+
+-- as many are there as a board has places, at most
+few : (size count : ℕ) {n : ℕ} → n ≡ whole_in size count → n ≤ 7
+few size count e = omega (arith, e, whole_some size count)
+
+pub slice_bounds-numbers-end : goal.slice_bounds-numbers-end
+slice_bounds-numbers-end c = few _ _ c.whole-end.ensures
+
+pub slice_bounds-same_number-end : goal.slice_bounds-same_number-end
+slice_bounds-same_number-end c = sym (length-take-le _ _ (few _ _ c.whole-end.ensures))
+
+pub returns : goal.returns
+unfolding same_held
+returns c =
+    let a = c.args in
+    let end = c.whole-end.result in
+    let held = number_held a.records.now in
+    let some : end ≤ 7 = few _ _ c.whole-end.ensures in
+    let numbers : _ ≡ seven held =
+    λ i. c.number_at.ensures i
+    ∷ c.number_at-2.ensures i
+    ∷ c.number_at-3.ensures i
+    ∷ c.number_at-4.ensures i
+    ∷ c.number_at-5.ensures i
+    ∷ c.number_at-6.ensures i
+    ∷ c.number_at-7.ensures i ∷ [] in
+    c.same_number.ensures
+    ∙ ap (λ (l : List ℕ). same_number (length (take end l)) (λ k. get_or (take end l) k 0)) numbers
+    ∙ same_read (seven held) held end some (λ k h. seven_at held 0 k (omega (arith, h, some)))
+    ∙ ap (λ (n : ℕ). same_number n held) c.whole-end.ensures

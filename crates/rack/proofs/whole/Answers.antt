@@ -1,0 +1,11 @@
+-- `rack::whole` meets its contract. Assumes nothing.
+use native.Mathlib.Omega.{arith}
+use Rattle.board.specs.Board.Laws.{places_some}
+use Rattle.rack.specs.Rack.{whole_in}
+use Rattle.rack.proofs.whole.Goals as goal
+
+pub returns : goal.returns
+unfolding whole_in
+returns c =
+    let few = c.least-few in
+    omega (arith, c.least.ensures, c.places.ensures, few.ensures, places_some c.args.count)
