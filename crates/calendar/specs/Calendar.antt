@@ -4,8 +4,6 @@ use Rattle.std.specs.Prelude.{Bool, true, false, not, ◌&&◌, ◌||◌, ℕ, z
 use Rattle.bits.specs.Bits.{bit_of}
 use Rattle.calendar.specs.declared.Clock.{Clock}
 use Rattle.calendar.specs.declared.Stepped.{Stepped}
-pub mod Laws
-pub mod Named
 
 -- ---- BCD
 

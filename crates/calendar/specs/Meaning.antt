@@ -3,14 +3,6 @@
 use Rattle.std.specs.Prelude.{◌≡◌, [], ◌∷◌, ◌⊎◌, ℕ, zero, suc, ◌+◌, ◌-◌, ◌*◌, ◌/◌, ◌%◌, ◌≤◌, eqb, get_or, if◌then◌else◌}
 use Rattle.calendar.specs.declared.Clock.{Clock}
 use Rattle.calendar.specs.Calendar.{decimal, Digits}
-pub mod Sums
-pub mod Fields
-pub mod Hours
-pub mod Months
-pub mod Days
-pub mod Seconds
-pub mod Unique
-pub mod Laws
 
 -- ---- years and months, counted from 0
 

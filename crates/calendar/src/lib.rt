@@ -116,7 +116,7 @@ fn valid_twelve(byte: u8) -> bool
 }
 
 // The month's byte: CENT is kept as the month steps.
-#[tactic(auto, using(crate::specs::Calendar::Laws::step_le), unfolding(crate::specs::Calendar::step_month))]
+#[tactic(auto, using(crate::proofs::Calendar::Laws::step_le), unfolding(crate::specs::Calendar::step_month))]
 fn step_month(byte: u8) -> Stepped
     ensures { result ≡ step_month byte }
 {
@@ -161,7 +161,7 @@ fn is_leap(year: u8) -> bool
 }
 
 // One field's step, between its lowest and its last value.
-#[tactic(auto, using(crate::specs::Calendar::Laws::valid_between), unfolding(crate::specs::Calendar::step_field, crate::specs::Calendar::step_along, crate::specs::Calendar::plus_one))]
+#[tactic(auto, using(crate::proofs::Calendar::Laws::valid_between), unfolding(crate::specs::Calendar::step_field, crate::specs::Calendar::step_along, crate::specs::Calendar::plus_one))]
 fn step(lowest: u8, last: u8, byte: u8) -> Stepped
     ensures { result ≡ step_field lowest last byte }
 {

@@ -5,7 +5,7 @@
 use Rattle.std.specs.Prelude.{◌≡◌, refl, Bool, true, false, List, [], ◌∷◌, map, ℕ, ◌+◌, ◌*◌, ◌%◌, ◌≤◌, length, drop}
 use Rattle.std.proofs.Common.{◌∙◌, arith}
 use Rattle.calendar.specs.Meaning.{form_of, century, moment, Valid}
-use Rattle.calendar.specs.Meaning.Laws.{valid_after, form_after, moment_after}
+use Rattle.calendar.proofs.Meaning.Laws.{valid_after, form_after, moment_after}
 use Rattle.calendar.specs.declared.Clock.{Clock}
 use Rattle.promises.specs.History.{Settings, Conversion, uncounted, stamp}
 use Rattle.promises.specs.History as history

@@ -3,7 +3,7 @@ use Rattle.std.specs.Prelude.{◌≡◌, List, ℕ, ◌+◌, ◌-◌, ◌*◌, �
 use Rattle.std.proofs.Common.{ap, ◌∙◌, mod-eq_of_lt, arith}
 use Rattle.std.specs.Int.Bits.{bit_and}
 use Rattle.std.proofs.lemmas.Nat.{and_le_r, and_mod, and_mask, and_block}
-use Rattle.calendar.specs.Calendar.Named.{Named}
+use Rattle.calendar.proofs.Calendar.Named.{Named}
 use Rattle.calendar.specs.declared.Clock.{Clock}
 use Rattle.image.specs.Tables.{register_at, named}
 use Rattle.conversion.specs.Clock.{clock_of, put_clock}

@@ -3,7 +3,7 @@ use Rattle.std.specs.Prelude.{◌≡◌, Bool, true, false, List, ℕ, ◌<◌, 
 use Rattle.std.proofs.Common.{◌∙◌, arith, length-set}
 use Rattle.bits.specs.Bytes.{Bytes, bytes_set}
 use Rattle.bits.specs.Choose.{choice}
-use Rattle.calendar.specs.Calendar.Named.{Named, named_next}
+use Rattle.calendar.proofs.Calendar.Named.{Named, named_next}
 use Rattle.calendar.specs.declared.Clock.{Clock}
 use Rattle.image.specs.Fields.{put_word, put_flag}
 use Rattle.image.specs.Fields.Laws.{length_put_word, bytes_put_word, length_put_flag, bytes_put_flag}

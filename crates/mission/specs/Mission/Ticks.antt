@@ -5,7 +5,7 @@ use Rattle.std.proofs.Common.{sym, ◌∙◌, arith}
 use Rattle.std.proofs.lemmas.Bool.{false≢true}
 use Rattle.bits.specs.Choose.{choices}
 use Rattle.calendar.specs.Calendar.{next_second}
-use Rattle.calendar.specs.Calendar.Named.{named_next}
+use Rattle.calendar.proofs.Calendar.Named.{named_next}
 use Rattle.calendar.specs.declared.Clock.{Clock}
 use Rattle.image.specs.Fields.Laws.{word_lt, word_put_word}
 use Rattle.image.specs.Leaves.{Leaves, leaves_same, leaves_then, leaves_choice, leaves_wider, leaves_put_word, word_left}

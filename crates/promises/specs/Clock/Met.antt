@@ -9,7 +9,7 @@ use Rattle.bits.specs.Bits.{bit_of}
 use Rattle.bits.specs.Bytes.{Bytes, bytes_of}
 use Rattle.calendar.specs.Calendar.{decimal}
 use Rattle.calendar.specs.Meaning.{leap_day, month_length, cent_of, year_of, months_over, days_over, form_of, hour_of, seconds_of, moment, WritesHour, Valid}
-use Rattle.calendar.specs.Meaning.Fields.{written}
+use Rattle.calendar.proofs.Meaning.Fields.{written}
 use Rattle.calendar.specs.declared.Clock.{Clock}
 use Rattle.image.specs.Stored.{blend, stored_run}
 use Rattle.image.specs.Tables.{writable}

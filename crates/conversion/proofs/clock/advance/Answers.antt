@@ -2,7 +2,7 @@
 -- `next_uncarried`. Each name says what was known after that call, or in that branch. Assumes nothing.
 use mathlib.Core.Path.{sym, ap, ◌∙◌}
 use Rattle.calendar.specs.Calendar.{step_field}
-use Rattle.calendar.specs.Calendar.Laws.{next_uncarried}
+use Rattle.calendar.proofs.Calendar.Laws.{next_uncarried}
 use Rattle.calendar.specs.declared.Stepped.{Stepped}
 use Rattle.conversion.specs.Clock.{clock_of}
 use Rattle.conversion.specs.Clock.{clocked}

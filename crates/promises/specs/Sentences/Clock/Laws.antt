@@ -14,8 +14,8 @@ use Rattle.bits.specs.Each.{each, each_at}
 use Rattle.bits.specs.Tests.{beq_eq}
 use Rattle.calendar.specs.Calendar
 use Rattle.calendar.specs.Calendar.{next_second, next_day, clock_after, step_field, step_along, step_month, step_hours, carried, flipped, hour_after, plus_one}
-use Rattle.calendar.specs.Calendar.Laws.{valid_between, step_le}
-use Rattle.calendar.specs.Calendar.Named.{Named, named_next}
+use Rattle.calendar.proofs.Calendar.Laws.{valid_between, step_le}
+use Rattle.calendar.proofs.Calendar.Named.{Named, named_next}
 use Rattle.calendar.specs.Meaning.{leap_day, month_length, cent_of, year_of, months_over, Valid}
 use Rattle.calendar.specs.declared.Clock.{Clock}
 use Rattle.calendar.specs.declared.Stepped.{Stepped}

@@ -14,9 +14,9 @@ use Rattle.bits.specs.Each.{each, each_at}
 use Rattle.bits.specs.Tests.{beq_eq}
 use Rattle.calendar.specs.declared.Stepped.{Stepped}
 use Rattle.calendar.specs.Calendar.{decimal, is_valid, plus_one, step_along, counting, hour_after, twelve_hours, hours_in, step_hours}
-use Rattle.calendar.specs.Calendar.Laws.{Between, valid_between, between_valid, along_invalid, twelve_between}
+use Rattle.calendar.proofs.Calendar.Laws.{Between, valid_between, between_valid, along_invalid, twelve_between}
 use Rattle.calendar.specs.Meaning.{form_of, hour_of, Writes, WritesHour}
-use Rattle.calendar.specs.Meaning.Fields.{spelled, writes_between, by_bit}
+use Rattle.calendar.proofs.Meaning.Fields.{spelled, writes_between, by_bit}
 
 -- ---- the table
 

@@ -7,13 +7,13 @@ use Rattle.bits.specs.Choose.{choice}
 use Rattle.calendar.specs.declared.Clock.{Clock}
 use Rattle.calendar.specs.declared.Stepped.{Stepped}
 use Rattle.calendar.specs.Calendar.{decimal, is_valid, plus_one, step_along, counting, hour_after, step_field, carried, step_hours, step_month, is_leap, days_in, flipped, next_day, next_second, clock_after}
-use Rattle.calendar.specs.Calendar.Laws.{along_carries, after_zero, after_suc}
+use Rattle.calendar.proofs.Calendar.Laws.{along_carries, after_zero, after_suc}
 use Rattle.calendar.specs.Meaning.{sum_below, leap_day, year_length, month_length, century, cent_of, year_of, months_over, days_over, form_of, hour_of, seconds_of, moment, WritesHour, Valid}
-use Rattle.calendar.specs.Meaning.Fields.{written, by_bit}
-use Rattle.calendar.specs.Meaning.Hours.{hour_byte, form_le, hour_lt, shown, hour_invalid, form_stays}
-use Rattle.calendar.specs.Meaning.Days.{days_lt, month_below, cent_above}
-use Rattle.calendar.specs.Meaning.Seconds.{second_on_lem}
-use Rattle.calendar.specs.Meaning.Unique.{seconds_injective}
+use Rattle.calendar.proofs.Meaning.Fields.{written, by_bit}
+use Rattle.calendar.proofs.Meaning.Hours.{hour_byte, form_le, hour_lt, shown, hour_invalid, form_stays}
+use Rattle.calendar.proofs.Meaning.Days.{days_lt, month_below, cent_above}
+use Rattle.calendar.proofs.Meaning.Seconds.{second_on_lem}
+use Rattle.calendar.proofs.Meaning.Unique.{seconds_injective}
 
 -- ---- one second on
 

@@ -7,9 +7,9 @@ use Rattle.bits.specs.Choose.{either}
 use Rattle.calendar.specs.declared.Clock.{Clock}
 use Rattle.calendar.specs.Calendar.{decimal, plus_one, carried, step_hours, next_day, next_second}
 use Rattle.calendar.specs.Meaning.{century, moment, cent_of, year_of, months_over, days_over, hour_of, seconds_of, Writes, WritesHour, Valid}
-use Rattle.calendar.specs.Meaning.Fields.{spelled, written, step_writes}
-use Rattle.calendar.specs.Meaning.Hours.{hour_lt, hour_on}
-use Rattle.calendar.specs.Meaning.Days.{days_lt, day_number, day_on_lem}
+use Rattle.calendar.proofs.Meaning.Fields.{spelled, written, step_writes}
+use Rattle.calendar.proofs.Meaning.Hours.{hour_lt, hour_on}
+use Rattle.calendar.proofs.Meaning.Days.{days_lt, day_number, day_on_lem}
 
 pub record SecondOn (c d : Clock) : Type 0 where
   pub valid : Valid d

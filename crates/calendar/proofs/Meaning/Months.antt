@@ -6,9 +6,9 @@ use Rattle.std.specs.Float.Ieee.Bits.{is_true}
 use Rattle.bits.specs.Bits.{digit}
 use Rattle.bits.specs.Each.{each, each_at}
 use Rattle.calendar.specs.Calendar.{decimal, is_valid, is_leap, days_in}
-use Rattle.calendar.specs.Calendar.Laws.{between_valid}
+use Rattle.calendar.proofs.Calendar.Laws.{between_valid}
 use Rattle.calendar.specs.Meaning.{leap_day, month_length, Writes}
-use Rattle.calendar.specs.Meaning.Fields.{Spells, spelled, writes_between}
+use Rattle.calendar.proofs.Meaning.Fields.{Spells, spelled, writes_between}
 
 leap_day_lem : {year : ℕ} → Writes 0 99 year → leap_day (decimal year) ≡ digit (is_leap year)
 unfolding leap_day is_leap

@@ -5,7 +5,7 @@ use Rattle.bits.specs.Choose.{either}
 use Rattle.calendar.specs.declared.Clock.{Clock}
 use Rattle.calendar.specs.declared.Stepped.{Stepped}
 use Rattle.calendar.specs.Calendar.{step_field, carried, step_hours, step_month, flipped, is_leap, days_in, next_day, next_second}
-use Rattle.calendar.specs.Calendar.Laws.{step_le, hours_lt}
+use Rattle.calendar.proofs.Calendar.Laws.{step_le, hours_lt}
 
 -- CENT and bits 4-0
 record MonthNamed (byte : ℕ) : Type 0 where

@@ -8,9 +8,9 @@ use Rattle.bits.specs.Each.{each, each_at}
 use Rattle.calendar.specs.declared.Clock.{Clock}
 use Rattle.calendar.specs.Calendar.{decimal, plus_one, carried, step_month, flipped, days_in, next_day}
 use Rattle.calendar.specs.Meaning.{sum_below, leap_day, year_length, month_length, cent_of, year_of, months_over, days_over, Writes, Valid}
-use Rattle.calendar.specs.Meaning.Sums.{sum_suc, sum_grows}
-use Rattle.calendar.specs.Meaning.Fields.{Spells, spelled, written, by_bit, GoesOn, step_writes}
-use Rattle.calendar.specs.Meaning.Months.{last_date}
+use Rattle.calendar.proofs.Meaning.Sums.{sum_suc, sum_grows}
+use Rattle.calendar.proofs.Meaning.Fields.{Spells, spelled, written, by_bit, GoesOn, step_writes}
+use Rattle.calendar.proofs.Meaning.Months.{last_date}
 
 -- ---- years and centuries
 

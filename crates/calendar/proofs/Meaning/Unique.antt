@@ -4,10 +4,10 @@ use Rattle.std.proofs.Common.{arith}
 use Rattle.calendar.specs.declared.Clock.{Clock}
 use Rattle.calendar.specs.Calendar.{decimal}
 use Rattle.calendar.specs.Meaning.{sum_below, year_length, month_length, cent_of, year_of, months_over, days_over, form_of, hour_of, seconds_of, Valid}
-use Rattle.calendar.specs.Meaning.Sums.{sum_terms}
-use Rattle.calendar.specs.Meaning.Fields.{decimal_injective}
-use Rattle.calendar.specs.Meaning.Hours.{hour_lt, hour_injective}
-use Rattle.calendar.specs.Meaning.Days.{year_lt}
+use Rattle.calendar.proofs.Meaning.Sums.{sum_terms}
+use Rattle.calendar.proofs.Meaning.Fields.{decimal_injective}
+use Rattle.calendar.proofs.Meaning.Hours.{hour_lt, hour_injective}
+use Rattle.calendar.proofs.Meaning.Days.{year_lt}
 
 module _ (c d : Clock) (v : Valid c) (w : Valid d) (e : days_over c ≡ days_over d) where
   same_year : (year_of c ≡ year_of d) × (sum_below (month_length (year_of c)) (months_over c) + (decimal c.date - 1) ≡ sum_below (month_length (year_of d)) (months_over d) + (decimal d.date - 1))

@@ -3,7 +3,7 @@ use Rattle.std.specs.Prelude.{◌≡◌, true, false, ◌⊎◌, ℕ, zero, suc,
 use Rattle.std.proofs.Common.{ap, ◌∙◌, inl, inr, ⊎_elim, le_of_suc-le-suc, not-suc-le-zero, arith, eqb→eq, lit≤}
 use Rattle.std.proofs.Math.Decide.{dec_lt}
 use Rattle.calendar.specs.Calendar.{decimal, Digits, plus_one, step_field}
-use Rattle.calendar.specs.Calendar.Laws.{Between, plus_one_lem, step_last, step_on}
+use Rattle.calendar.proofs.Calendar.Laws.{Between, plus_one_lem, step_last, step_on}
 use Rattle.calendar.specs.Meaning.{Writes}
 
 -- ---- BCD bytes in the order of their numbers
