@@ -1,6 +1,6 @@
 -- `crc::crc16_byte` meets its contract, by the tables. Assumes nothing.
 use Rattle.std.proofs.Common.{sym, rules}
-use Rattle.crc.specs.Crc.Halves.{byte_tabled_lem}
+use Rattle.crc.proofs.Crc.Halves.{byte_tabled_lem}
 use Rattle.crc.proofs.crc16_byte.Goals as goal
 
 pub returns : goal.returns

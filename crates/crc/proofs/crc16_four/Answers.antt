@@ -1,6 +1,6 @@
 -- `crc::crc16_four` meets its contract, by the tables. Assumes nothing.
 use Rattle.std.proofs.Common.{◌<◌, ◌^◌, sym, rules}
-use Rattle.crc.specs.Crc.Halves.{four_tabled}
+use Rattle.crc.proofs.Crc.Halves.{four_tabled}
 use Rattle.crc.proofs.crc16_four.Goals as goal
 
 pub returns : goal.returns
