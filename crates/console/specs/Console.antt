@@ -3,7 +3,6 @@
 use Rattle.std.specs.Prelude.{Bool, true, false, List, [], ◌∷◌, ◌++◌, ◌≡◌, ℕ, zero, suc, ◌+◌, ◌*◌, ◌-◌, ◌/◌, ◌%◌, ◌≤◌, min, eqb, length, take, drop, if◌then◌else◌}
 use Rattle.answer.specs.Answer.{refusal_text}
 use Rattle.bits.specs.Bits.{digit}
-pub mod Laws
 
 -- ---- groups
 

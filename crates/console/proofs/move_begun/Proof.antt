@@ -8,7 +8,7 @@ use borrow.Author.Rules.{rules}
 use lib.ListN.{length, take, length-take}
 use lib.Seq.{sets, length-sets, take_all}
 use Rattle.console.specs.Console.{begun_in}
-use Rattle.console.specs.Console.Laws.{begun_length, begun_moved}
+use Rattle.console.proofs.Console.Laws.{begun_length, begun_moved}
 use Rattle.console.proofs.move_begun.Statement.{statement}
 use Rattle.console.proofs.move_begun.Tie as tie
 

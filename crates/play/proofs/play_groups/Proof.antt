@@ -7,7 +7,7 @@ use native.Mathlib.Omega.{arith}
 use borrow.Author.Rules.{rules}
 use borrow.Author.Tests.{leb-true, leb-false}
 use lib.ListN.{length}
-use Rattle.console.specs.Console.Laws.{Put, Playing, playing_none, playing_one, playing_all, answer_length}
+use Rattle.console.proofs.Console.Laws.{Put, Playing, playing_none, playing_one, playing_all, answer_length}
 use Rattle.record.specs.declared.Tag.{Tag}
 use Rattle.play.specs.declared.Played.{Played}
 use Rattle.play.specs.Play.{reply_of}

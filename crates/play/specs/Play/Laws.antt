@@ -3,7 +3,7 @@ use Rattle.std.specs.Prelude.{List, ◌≡◌, ℕ, ◌+◌, get_or, take, drop}
 use Rattle.std.proofs.Common.{add-zero, arith}
 use Rattle.answer.specs.Answer.{answer_number}
 use Rattle.console.specs.Console.{reading_of}
-use Rattle.console.specs.Console.Laws.{group_byte}
+use Rattle.console.proofs.Console.Laws.{group_byte}
 use Rattle.record.specs.declared.Answered.{Answered}
 use Rattle.record.specs.declared.Tag.{Tag}
 use Rattle.tag.specs.Tag.{step}

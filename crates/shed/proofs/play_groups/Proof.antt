@@ -7,7 +7,7 @@ use native.Mathlib.Omega.{arith}
 use borrow.Author.Rules.{rules}
 use borrow.Author.Tests.{leb-true, leb-false}
 use lib.ListN.{length}
-use Rattle.console.specs.Console.Laws.{Put, Playing, playing_none, playing_one, playing_all, answer_length}
+use Rattle.console.proofs.Console.Laws.{Put, Playing, playing_none, playing_one, playing_all, answer_length}
 use Rattle.board.specs.declared.Board.{Board}
 use Rattle.shed.specs.declared.Played.{Played}
 use Rattle.shed.specs.Shed.{reply_of}

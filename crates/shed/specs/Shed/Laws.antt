@@ -6,7 +6,7 @@ use Rattle.board.specs.declared.Board.{Board}
 use Rattle.board.specs.declared.Shown.{Shown}
 use Rattle.board.specs.Board.{line_step}
 use Rattle.console.specs.Console.{reading_of}
-use Rattle.console.specs.Console.Laws.{group_byte}
+use Rattle.console.proofs.Console.Laws.{group_byte}
 use Rattle.shed.specs.Shed.{reply_of}
 
 -- what the code learns of an event is its reply
