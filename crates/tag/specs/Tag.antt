@@ -4,7 +4,6 @@ use Rattle.answer.specs.declared.Answer.{Answer}
 use Rattle.event.specs.Event.{slotted, reset_tag, short_tag, tick_tag}
 use Rattle.record.specs.declared.Tag.{Tag}
 use Rattle.record.specs.Record.{Outcome, good_number, good_code, tag_in_range, fresh_tag, accepted, refusal}
-pub mod Laws
 
 -- ---- a new tag
 

@@ -8,7 +8,7 @@ use Rattle.bits.specs.Stores.{sets_append}
 use Rattle.record.specs.declared.Tag.{Tag}
 use Rattle.record.specs.Record.{Outcome, tag_in_range}
 use Rattle.tag.specs.Tag.{step}
-use Rattle.tag.specs.Tag.Laws.{length_step, step_in_range}
+use Rattle.tag.proofs.Tag.Laws.{length_step, step_in_range}
 use Rattle.batch.specs.Batch.{is_event, code_of, reading_of, Course, course_of, over, replying, Listed, returned, replied, listed}
 use Rattle.batch.specs.Batch.Laws.{list_cases, list_taken}
 

@@ -14,7 +14,7 @@ use Rattle.record.specs.declared.Answered.{Answered}
 use Rattle.record.specs.declared.Tag.{Tag}
 use Rattle.record.specs.Record.{Outcome, tag_in_range}
 use Rattle.tag.specs.Tag.{event_of, step}
-use Rattle.tag.specs.Tag.Laws.{step_taken, step_in_range, event_tick}
+use Rattle.tag.proofs.Tag.Laws.{step_taken, step_in_range, event_tick}
 use Rattle.batch.specs.Batch.{is_code, is_event, code_of, reading_of, Course, course_of, over, replying, Listed, returned, undone, replied, listed}
 
 -- ---- a word

@@ -18,7 +18,7 @@ use Rattle.record.specs.declared.Answered.{Answered}
 use Rattle.record.specs.declared.Tag.{Tag}
 use Rattle.record.specs.Record.{Outcome, good_number, good_code, tag_in_range}
 use Rattle.tag.specs.Tag.{new_tag, event_of}
-use Rattle.tag.specs.Tag.Laws.{event_slot, event_reset, event_short, event_tick}
+use Rattle.tag.proofs.Tag.Laws.{event_slot, event_reset, event_short, event_tick}
 use Rattle.board.specs.Board.{image_at, with_image, tag_at, with_tag, number_at, is_count, names_none, is_high, same_number, judged_by, judged, Left, refusal, Going, begun, reached, across, taken, accepted, line_step, new_fault, new_judged, empty_board, new_at, new_line}
 use Rattle.board.specs.declared.Board.{Board}
 

@@ -13,7 +13,7 @@ use Rattle.bits.specs.Each.{each, each_next}
 use Rattle.record.specs.declared.Tag.{Tag}
 use Rattle.record.specs.Record.{Outcome}
 use Rattle.tag.specs.Tag.{new_tag, event_of}
-use Rattle.tag.specs.Tag.Laws.{length_event, length_made}
+use Rattle.tag.proofs.Tag.Laws.{length_event, length_made}
 use Rattle.board.specs.Board.{image_at, with_image, tag_at, with_tag, judged, Going, begun, reached, across, taken, line_step, new_judged, empty_board, new_at, new_line}
 use Rattle.board.specs.Board.Laws.{passed, tick_named, line_refused, line_taken, taken_tick, taken_given, across_last, new_taken, good}
 use Rattle.board.specs.Board.Places.{Has, length_image, length_with, image_with, image_other, tag_with, tag_other}

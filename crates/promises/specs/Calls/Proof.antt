@@ -12,7 +12,7 @@ use Rattle.bits.specs.Bits.Laws.{digit_same}
 use Rattle.record.specs.declared.Answered.{Answered}
 use Rattle.record.specs.Record.{Outcome}
 use Rattle.tag.specs.Tag.{event_of, step}
-use Rattle.tag.specs.Tag.Laws.{step_taken, event_tick, event_reading, event_other}
+use Rattle.tag.proofs.Tag.Laws.{step_taken, event_tick, event_reading, event_other}
 use Rattle.promises.specs.Batches.{events_of, asked_number, Leaves}
 use Rattle.promises.specs.Batches.Words.{asked_none}
 use Rattle.promises.specs.Batches.Proof.{batches}

@@ -32,7 +32,7 @@ use Rattle.mission.specs.Mission.Whole.{whole_started}
 use Rattle.mission.specs.declared.Counters.{Counters}
 use Rattle.event.specs.Event.{performed, performed_counters, slotted, tick_tag}
 use Rattle.tag.specs.Tag.{new_image}
-use Rattle.tag.specs.Tag.Laws.{new_good, new_made}
+use Rattle.tag.proofs.Tag.Laws.{new_good, new_made}
 use Rattle.promises.specs.Demand2.Deeds.{holds_performed, Stopped, stopped_stop, stopped_ticked, stopped_performed}
 use Rattle.promises.specs.Demand2.Effects.{mip_rises, memclr_stays, store_stages}
 use Rattle.promises.specs.Demand2.Events.{slot_at, is_stop}

@@ -21,7 +21,7 @@ use Rattle.select.specs.Select.{mark_in, speed_in, mode_of, standard}
 use Rattle.select.specs.Select.Laws.{mark_of_lem, speed_of_lem, mode_of_lem}
 use Rattle.select.specs.Select.Speed.{leads, leads_none, leads_silent, leads_by, skip_leads, match_sets}
 use Rattle.tag.specs.Tag.{new_tag, event_of, step}
-use Rattle.tag.specs.Tag.Laws.{new_good, new_made}
+use Rattle.tag.proofs.Tag.Laws.{new_good, new_made}
 use Rattle.promises.specs.Demand3.Left.{tick_cases}
 use Rattle.promises.specs.Line.Slots.{line_event}
 use Rattle.promises.specs.Overdrive.{with_mode, with_speed, ButSpeed, NoLong, NoShort, slots_in, SetsSpeed, Overdrive}

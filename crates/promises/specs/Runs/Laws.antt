@@ -13,7 +13,7 @@ use Rattle.record.specs.Record.{tag_in_range, refusal}
 use Rattle.event.specs.Event.{slotted, reset_tag, short_tag, tick_tag}
 use Rattle.tag.specs.Tag.{new_tag, event_of}
 use Rattle.record.specs.Record.Laws.{new_in_range}
-use Rattle.tag.specs.Tag.Laws.{new_good, new_made, length_new, length_step, step_in_range, step_taken}
+use Rattle.tag.proofs.Tag.Laws.{new_good, new_made, length_new, length_step, step_in_range, step_taken}
 use Rattle.promises.specs.Runs.{State, Event, code_of, reading_of, leaves, happens, after, line_bit, Accepts, Ran, run, Kept, Reached, Always, Together, OnSlots}
 
 -- ---- an invariant of one event is one of every run

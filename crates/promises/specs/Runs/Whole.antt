@@ -16,7 +16,7 @@ use Rattle.mission.specs.declared.Counters.{Counters}
 use Rattle.mission.specs.Mission.Whole.{whole_ticked, whole_cleared, whole_started, whole_stopped, whole_forced}
 use Rattle.select.specs.Select.{reset_select}
 use Rattle.tag.specs.Tag.{new_image}
-use Rattle.tag.specs.Tag.Laws.{new_good, new_made, length_new}
+use Rattle.tag.proofs.Tag.Laws.{new_good, new_made, length_new}
 use Rattle.promises.specs.Runs.{State, Event, after, Reached}
 use Rattle.promises.specs.Runs.Laws.{Sound, reached_sound, slot_happens, reset_happens, short_happens, reset_keeps, short_keeps, tick_happens, tick_passed}
 

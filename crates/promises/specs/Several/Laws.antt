@@ -15,7 +15,7 @@ use Rattle.event.specs.Event.{tick_tag}
 use Rattle.record.specs.Record.{Outcome, tag_in_range}
 use Rattle.select.specs.Select.{mode_of}
 use Rattle.tag.specs.Tag.{event_of, step}
-use Rattle.tag.specs.Tag.Laws.{step_taken}
+use Rattle.tag.proofs.Tag.Laws.{step_taken}
 use Rattle.promises.specs.Runs as alone
 use Rattle.promises.specs.Runs.{State, Event}
 use Rattle.promises.specs.Runs.Laws.{Sound, run_append, tick_happens}

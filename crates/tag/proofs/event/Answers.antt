@@ -8,7 +8,7 @@ use Rattle.record.specs.declared.Answered.{Answered}
 use Rattle.event.specs.Event.{reset_tag, short_tag}
 use Rattle.record.specs.Record.{Outcome}
 use Rattle.tag.specs.Tag.{event_of, step}
-use Rattle.tag.specs.Tag.Laws.{event_slot, event_reset, event_short, event_tick, event_reading, event_other}
+use Rattle.tag.proofs.Tag.Laws.{event_slot, event_reset, event_short, event_tick, event_reading, event_other}
 use Rattle.tag.proofs.event.Goals as goal
 
 abbrev answered_of : Outcome → Answered

@@ -13,7 +13,7 @@ use Rattle.bus.specs.declared.Deed.{Deed}
 use Rattle.conversion.specs.Conversion.Whole.{Whole}
 use Rattle.record.specs.Record.{good_code, Outcome}
 use Rattle.tag.specs.Tag.{new_tag}
-use Rattle.tag.specs.Tag.Laws.{new_made, length_new}
+use Rattle.tag.proofs.Tag.Laws.{new_made, length_new}
 use Rattle.promises.specs.Demand2.{Lists, held_of, demand2}
 use Rattle.promises.specs.Demand2.Course.{reached_solid, Started, starts_after}
 use Rattle.promises.specs.Demand2.Events.{slot_at}

@@ -17,7 +17,7 @@ use Rattle.mission.specs.Mission.{cleared}
 use Rattle.mission.specs.Mission.Commands.{clears}
 use Rattle.mission.specs.Mission.Frames.{leaves_cleared, mip_cleared}
 use Rattle.conversion.specs.Conversion.Whole.{Whole}
-use Rattle.tag.specs.Tag.Laws.{length_new}
+use Rattle.tag.proofs.Tag.Laws.{length_new}
 use Rattle.promises.specs.Demand2.Met.{page}
 use Rattle.promises.specs.Demand3.Needed.Tags.{fresh, fresh_at, fresh_off}
 use Rattle.promises.specs.History.{Settings}

@@ -32,7 +32,7 @@ use Rattle.mission.specs.Mission.Ticks.{converts_ticked}
 use Rattle.mission.specs.declared.Counters.{Counters}
 use Rattle.select.specs.Runs as runs
 use Rattle.select.specs.Select as select
-use Rattle.tag.specs.Tag.Laws.{length_new}
+use Rattle.tag.proofs.Tag.Laws.{length_new}
 use Rattle.promises.specs.Demand2.Course.{Solid, reached_solid, tick_leaves}
 use Rattle.promises.specs.Demand3.{JustReset, Alike, conditional}
 use Rattle.promises.specs.Demand3.Needed.{Sometime, Joins, MissionMet}

@@ -24,7 +24,7 @@ use Rattle.mission.specs.Mission.Frames.{leaves_cleared, mip_cleared}
 use Rattle.conversion.specs.Conversion.Whole.{Whole}
 use Rattle.record.specs.Record.{good_number, good_code, Outcome}
 use Rattle.tag.specs.Tag.{new_image, new_tag}
-use Rattle.tag.specs.Tag.Laws.{new_made, length_new}
+use Rattle.tag.proofs.Tag.Laws.{new_made, length_new}
 use Rattle.promises.specs.Demand2.Course.{reached_solid}
 use Rattle.promises.specs.Demand3.{JustReset}
 use Rattle.promises.specs.Demand3.Needed.Keys.{HasKeys, keys_stored}

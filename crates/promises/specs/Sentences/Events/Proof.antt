@@ -21,7 +21,7 @@ use Rattle.select.specs.declared.Choosing.{Choosing}
 use Rattle.select.specs.declared.Mode.{Mode}
 use Rattle.select.specs.Select as select
 use Rattle.tag.specs.Tag.{new_image, new_tag, event_of, step}
-use Rattle.tag.specs.Tag.Laws.{event_answer, step_answer, new_answer, step_answer_lem, step_refused, new_answer_lem, new_refused, new_good, new_made, length_new}
+use Rattle.tag.proofs.Tag.Laws.{event_answer, step_answer, new_answer, step_answer_lem, step_refused, new_answer_lem, new_refused, new_good, new_made, length_new}
 use Rattle.promises.specs.Line.Slots.{line_event}
 use Rattle.promises.specs.Ranges.{is_rom, is_configuration, in_range, Fit}
 use Rattle.promises.specs.Ranges.Laws.{crc8_is, range_is, fit_sound, fit_after, reached_fit}

@@ -20,7 +20,7 @@ use Rattle.select.specs.Select.{mode_of, speed_in}
 use Rattle.bus.specs.declared.Guarded.{Guarded}
 use Rattle.bus.specs.declared.Stage.{Stage}
 use Rattle.record.specs.Record.{good_number}
-use Rattle.tag.specs.Tag.Laws.{length_new}
+use Rattle.tag.proofs.Tag.Laws.{length_new}
 use Rattle.promises.specs.Demand3.{EndsField, Conditional, Alike, NoPassword, NoneCarried, AlarmsAgree, Premises}
 use Rattle.promises.specs.Demand3.Needed.{Sometime}
 use Rattle.promises.specs.Demand3.Needed.Keys.{HasKeys, keys_stored, none_of_keys}
