@@ -12,7 +12,6 @@ pub mod Laws
 pub mod Numbers
 pub mod Places
 pub mod Reading
-pub mod Visits
 
 -- ---- places: "places count from 0; the tag at place i has bytes 8,832 i to 8,832 i + 8,831 of the block"
 

@@ -13,7 +13,7 @@ use Rattle.bits.specs.Choose.{either, choice}
 use Rattle.bits.specs.Each.{each}
 use Rattle.board.specs.declared.Board.{Board}
 use Rattle.board.specs.Board.{tag_at, is_count, Left, judged_by, judged, line_step, new_judged, empty_board, new_line}
-use Rattle.board.specs.Board.Visits.{line_stays}
+use Rattle.board.proofs.Visits.{line_stays}
 use Rattle.board.specs.Board.Laws.{passed, judged_by_lem, line_answer}
 use Rattle.rack.specs.Rack.{has_room, is_rack, board_in, same_held, rack_of}
 use Rattle.rack.specs.Rack.Back.{same_racked}

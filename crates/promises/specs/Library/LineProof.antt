@@ -20,7 +20,7 @@ use Rattle.bits.specs.Bits.{digit}
 use Rattle.bits.specs.Each.{each, each_same}
 use Rattle.board.specs.declared.Board.{Board}
 use Rattle.board.specs.Board.{tag_at, is_count, names_none, is_high, same_number, judged_by, Left, line_step, empty_board, new_line}
-use Rattle.board.specs.Board.Visits.{Stays, line_stays, new_stays}
+use Rattle.board.proofs.Visits.{Stays, line_stays, new_stays}
 use Rattle.board.specs.Board.Laws as board-laws
 use Rattle.board.specs.Board.Laws.{places_counted, counted}
 use Rattle.image.specs.Fields.{word_at}

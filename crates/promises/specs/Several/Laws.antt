@@ -10,7 +10,7 @@ use Rattle.board.specs.Board as board
 use Rattle.board.specs.Board.{Going, Left, begun, reached, across, taken, accepted, judged, line_step}
 use Rattle.board.specs.Board.Laws.{Passed, passed, counted, line_judged, line_taken, taken_tick, taken_given, tick_named, tick_low}
 use Rattle.board.specs.Board.Places.{Has, length_image}
-use Rattle.board.specs.Board.Visits.{Own, Stays, stays_same, stays_then, visit_own, visit_other, across_own, across_line, reached_visits, line_stays}
+use Rattle.board.proofs.Visits.{Own, Stays, stays_same, stays_then, visit_own, visit_other, across_own, across_line, reached_visits, line_stays}
 use Rattle.event.specs.Event.{tick_tag}
 use Rattle.record.specs.Record.{Outcome, tag_in_range}
 use Rattle.select.specs.Select.{mode_of}

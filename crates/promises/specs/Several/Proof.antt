@@ -13,7 +13,7 @@ use Rattle.bits.specs.Each.{each_true, each_false}
 use Rattle.board.specs.Board as board
 use Rattle.board.specs.Board.{Left, Going, line_step, new_line, begun, across, new_at, empty_board}
 use Rattle.board.specs.Board.Laws as board-laws
-use Rattle.board.specs.Board.Visits.{across_own, new_visits, new_stays}
+use Rattle.board.proofs.Visits.{across_own, new_visits, new_stays}
 use Rattle.board.specs.declared.Board.{Board}
 use Rattle.board.specs.declared.Shown.{Shown}
 use Rattle.record.specs.declared.Tag.{Tag}
