@@ -10,7 +10,8 @@ use Rattle.std.proofs.lemmas.List.{length-map}
 use Rattle.std.proofs.Math.Seq.{sets}
 use Rattle.batch.specs.Batch.{Course, Listed, listed}
 use Rattle.batch.specs.Batch.Laws.{list_few, list_taken}
-use Rattle.batch.specs.Batch.Cuts.{joined, course_length, course_in_range, list_append}
+use Rattle.batch.specs.Batch.Cuts.{joined}
+use Rattle.batch.proofs.Cuts.{course_length, course_in_range, list_append}
 use Rattle.bits.specs.Bits.{digit}
 use Rattle.event.specs.Event.{reset_tag}
 use Rattle.record.specs.declared.Tag.{Tag}

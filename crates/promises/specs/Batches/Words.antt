@@ -15,7 +15,7 @@ use Rattle.answer.specs.declared.Answer.{Answer}
 use Rattle.batch.specs.Batch.{is_event, Course, course_of, undone, replied, listed}
 use Rattle.batch.specs.Batch as batch
 use Rattle.batch.specs.Batch.Laws.{list_cases}
-use Rattle.batch.specs.Batch.Cuts.{course_cases}
+use Rattle.batch.proofs.Cuts.{course_cases}
 use Rattle.bits.specs.Bits.{digit}
 use Rattle.bits.specs.Choose.{either}
 use Rattle.record.specs.declared.Tag.{Tag}
