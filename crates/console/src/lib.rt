@@ -9,7 +9,7 @@ ghost use Rattle.console.specs.Console.{begun_in, Behind, reading_of, answer_tex
 
 use answer::Answer;
 use image::{peek, poke};
-use libc::{STDIN_FILENO, STDOUT_FILENO};
+use std::io::{Print, Read, Stdin, Stdout};
 
 // Moves the bytes behind the whole groups of the input's first `held` bytes, or of all if there are fewer, to its start, and
 // returns how many they are. Of groups of no bytes none is ever whole.
@@ -27,20 +27,39 @@ pub fn move_begun(input: &mut [u8], held: usize, size: usize) -> usize
 }
 
 // Reads once behind the input's first `begun` bytes, and returns how many bytes it then holds. A full one takes no more.
-pub fn read_behind(input: &mut [u8], begun: usize) -> usize
+pub fn read_behind(stdin: Stdin, input: &mut [u8], begun: usize) -> usize
     ensures { Behind input.old begun result input.new }
 {
     if begun < input.len() {
-        begun + read_into(&mut input[begun..])
+        begun + read_into(stdin, &mut input[begun..])
     } else {
         input.len()
     }
 }
 
-fn read_into(bytes: &mut [u8]) -> usize
+// Reads until the bytes are full, the input ends or a read fails, and returns how many it put at their start.
+pub fn read_full(stdin: Stdin, bytes: &mut [u8]) -> usize
     ensures { result ≤ length bytes.old }
 {
-    io::count(libc::read(STDIN_FILENO, bytes), bytes)
+    let mut done = 0;
+    while done < bytes.len() {
+        let count = read_into(stdin, &mut bytes[done..]);
+        if count == 0 {
+            return done;
+        }
+        done += count;
+    }
+    done
+}
+
+// A read that fails counts as the input's end.
+fn read_into(mut stdin: Stdin, bytes: &mut [u8]) -> usize
+    ensures { result ≤ length bytes.old }
+{
+    match stdin.read(bytes) {
+        Ok(count) => count,
+        Err(_) => 0,
+    }
 }
 
 // A reading as a group has it, high byte and low byte.
@@ -94,15 +113,15 @@ fn put_refusal(out: &mut [u8], at: usize, number: u8)
 }
 
 // Prints the first `count` bytes, or all if there are fewer, and says whether the output took them. Nothing is always taken.
-pub fn print(text: &[u8], count: usize) -> bool
+pub fn print(stdout: Stdout, text: &[u8], count: usize) -> bool
     ensures { take count text.now ≡ [] → result ≡ true }
 {
     let end = least(count, text.len());
-    end == 0 || io::write_all(STDOUT_FILENO, &text[..end])
+    end == 0 || stdout.write_all(&text[..end]).is_ok()
 }
 
 // Prints a refusal, and says whether the answer is one.
-pub fn refused(answer: Answer) -> bool
+pub fn refused(stdout: Stdout, answer: Answer) -> bool
     ensures { result ≡ not (eqb (answer_number answer) 0) }
 {
     let number = answer::number(answer);
@@ -110,7 +129,7 @@ pub fn refused(answer: Answer) -> bool
         return false;
     }
     let text = answer::refusal_text(number);
-    io::write_all(STDOUT_FILENO, &text);
+    print(stdout, &text, 4);
     true
 }
 

@@ -6,8 +6,8 @@ ghost use Rattle.std.specs.Prelude.{◌≡◌};
 ghost use Rattle.std.proofs.lemmas.List.Edits.{sets};
 ghost use Rattle.play.specs.Play.{session_of, played_in};
 
-use libc::STDIN_FILENO;
 use record::Tag;
+use std::io::{Stdin, Stdout};
 
 // The bytes of an event: code, reading high, low.
 const GROUP: usize = 3;
@@ -20,36 +20,50 @@ struct Played {
     accepted: bool,
 }
 
-fn main() {
+fn main(rt: HostRuntime) {
     let mut image = [0u8; 8832];
     let mut head = [0u8; 9];
     // Missing bytes stay 00h.
-    io::read_full(STDIN_FILENO, &mut head);
+    console::read_full(rt.stdin(), &mut head);
     let number = image::word(&head, 0, 8);
     let made = tag::new(&mut image, number, head[8]);
     let answer = made.answer;
-    if console::refused(answer) {
+    if console::refused(rt.stdout(), answer) {
         return;
     }
     let mut input = [0u8; 65536];
     let mut out = [0u8; 65536];
     let tag = made.tag;
-    play(&mut image, tag, &mut input, &mut out);
+    play(
+        rt.stdin(),
+        rt.stdout(),
+        &mut image,
+        tag,
+        &mut input,
+        &mut out,
+    );
 }
 
 // Each turn reads once, and prints the answers to the whole groups that are then held. So a group is answered before the next
 // read that could wait, and the bytes of one that has only begun stay for the next turn. A proved loop has to end, and nothing
 // says that the input does: so the turns are counted down, from a number that no run uses up.
-fn play(image: &mut [u8], tag: Tag, input: &mut [u8], out: &mut [u8]) {
+fn play(
+    stdin: Stdin,
+    stdout: Stdout,
+    image: &mut [u8],
+    tag: Tag,
+    input: &mut [u8],
+    out: &mut [u8],
+) {
     let mut now = tag;
     let mut held = 0;
     let mut goes_on = true;
     let mut turns = u64::MAX;
     while turns > 0 && goes_on {
         let begun = console::move_begun(input, held, GROUP);
-        held = console::read_behind(input, begun);
+        held = console::read_behind(stdin, input, begun);
         let played = play_groups(image, now, &input[..held], out);
-        let written = console::print(out, played.printed);
+        let written = console::print(stdout, out, played.printed);
         now = played.tag;
         goes_on = begun < held && written && played.accepted;
         turns -= 1;

@@ -7,7 +7,7 @@ ghost use Rattle.std.proofs.lemmas.List.Edits.{sets};
 ghost use Rattle.shed.specs.Shed.{session_of, played_in};
 
 use board::Board;
-use libc::STDIN_FILENO;
+use std::io::{Stdin, Stdout};
 
 // The bytes of an event: code, place, reading high, low.
 const GROUP: usize = 4;
@@ -20,27 +20,33 @@ struct Played {
     accepted: bool,
 }
 
-fn main() {
+fn main(rt: HostRuntime) {
     // A missing byte stays 00h.
     let mut count = [0u8; 1];
-    io::read_full(STDIN_FILENO, &mut count);
+    console::read_full(rt.stdin(), &mut count);
     // Of more than seven tags eight heads are read: such a line is refused for its count alone.
     let mut numbers = [0u64; 8];
     let mut codes = [0u8; 8];
-    let heads = read_heads(count[0], &mut numbers, &mut codes);
+    let heads = read_heads(rt.stdin(), count[0], &mut numbers, &mut codes);
     let mut block = [0u8; 7 * 8832];
     let lent = if heads < 8 { heads * 8832 } else { 7 * 8832 };
-    begin(&mut block[..lent], &numbers[..heads], &codes[..heads]);
+    begin(
+        rt.stdin(),
+        rt.stdout(),
+        &mut block[..lent],
+        &numbers[..heads],
+        &codes[..heads],
+    );
 }
 
 // Reads the heads of so many tags, as far as there are places for their numbers, and returns how many it has read.
-fn read_heads(count: u8, numbers: &mut [u64], codes: &mut [u8]) -> usize
+fn read_heads(stdin: Stdin, count: u8, numbers: &mut [u64], codes: &mut [u8]) -> usize
     ensures { result ≡ min count (length numbers.old) }
 {
     let mut i = 0;
     while i < numbers.len() && i < count as usize {
         let mut head = [0u8; 9];
-        io::read_full(STDIN_FILENO, &mut head);
+        console::read_full(stdin, &mut head);
         numbers[i] = image::word(&head, 0, 8);
         image::poke(codes, i, head[8]);
         i += 1;
@@ -49,29 +55,36 @@ fn read_heads(count: u8, numbers: &mut [u64], codes: &mut [u8]) -> usize
 }
 
 // A new line, and the events that come for it.
-fn begin(block: &mut [u8], numbers: &[u64], codes: &[u8]) {
+fn begin(stdin: Stdin, stdout: Stdout, block: &mut [u8], numbers: &[u64], codes: &[u8]) {
     let made = board::new(block, numbers, codes);
     let answer = made.answer;
-    if console::refused(answer) {
+    if console::refused(stdout, answer) {
         return;
     }
     let mut input = [0u8; 65536];
     let mut out = [0u8; 65536];
     let board = made.board;
-    play(block, board, &mut input, &mut out);
+    play(stdin, stdout, block, board, &mut input, &mut out);
 }
 
 // Turn by turn, as `play` does.
-fn play(block: &mut [u8], board: Board, input: &mut [u8], out: &mut [u8]) {
+fn play(
+    stdin: Stdin,
+    stdout: Stdout,
+    block: &mut [u8],
+    board: Board,
+    input: &mut [u8],
+    out: &mut [u8],
+) {
     let mut now = board;
     let mut held = 0;
     let mut goes_on = true;
     let mut turns = u64::MAX;
     while turns > 0 && goes_on {
         let begun = console::move_begun(input, held, GROUP);
-        held = console::read_behind(input, begun);
+        held = console::read_behind(stdin, input, begun);
         let played = play_groups(block, now, &input[..held], out);
-        let written = console::print(out, played.printed);
+        let written = console::print(stdout, out, played.printed);
         now = played.board;
         goes_on = begun < held && written && played.accepted;
         turns -= 1;
