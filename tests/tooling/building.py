@@ -9,14 +9,17 @@ from .common import DONE, FAILED, READER, REFUSED, RUN, TOP, content, leftovers,
 
 NEW_TAG = bytes.fromhex("412BC5FB000000A140")
 TWO_TAGS = b"\2" + NEW_TAG + bytes.fromhex("41D70AFC0000006540")
-PARTS = ("run", "reader", "crates.txt", "crates", "tools", "examples")
+PARTS = ("run", "reader", "crates.txt", "crates", "tools", "bench", "examples")
 NOBODY = 65534
 
 
 def copy_into(folder):
     for part in PARTS:
         path = os.path.join(TOP, part)
-        (shutil.copytree if os.path.isdir(path) else shutil.copy2)(path, os.path.join(folder, part))
+        if os.path.isdir(path):
+            shutil.copytree(path, os.path.join(folder, part), ignore=shutil.ignore_patterns("out"))
+        else:
+            shutil.copy2(path, os.path.join(folder, part))
     return os.path.join(folder, "run"), os.path.join(folder, "reader")
 
 
@@ -105,21 +108,28 @@ def builds():
         with open(source, "a", encoding="utf-8") as file:
             file.write("fn broken( {\n")
         done = start([run, "list"], b"x")
-        right = done.returncode == FAILED and done.stderr.endswith(b"run: 'list' was not built: 'rt check list' says more\n")
+        right = done.returncode == FAILED and done.stderr.endswith(b"run: 'list' was not built: 'rt check' in crates/list says more\n")
         yield "run, a broken source", right and b"rattle-link" not in done.stderr, done.stderr
         yield "a broken build leaves no work behind", leftovers(os.path.join(folder, "target", "unproved")) == ["list"], None
 
 
 def proved_builds(folder, run, reader):
-    """A build where rt check puts it counts as proved until a source, definition or proof is newer; the pages say which."""
-    proved = os.path.join(folder, "target", "bin", "list")
+    """A build where rt puts it counts as proved, with rt run's stamp or rt ci's second build beside it, until a source, definition or
+    proof is newer; the pages say which."""
+    proved = os.path.join(folder, "crates", "list", "out", "list")
     os.makedirs(os.path.dirname(proved))
-    shutil.copy(os.path.join(folder, "target", "unproved", "list"), proved)
     dump = os.path.join(folder, "examples", "landing.dump")
     proof = os.path.join(folder, "crates", "dock", "proofs")
-    for name, newer, says in (("proved", None, True), ("with a newer proof", proof, False)):
+    for name, beside, newer, says in (("with nothing beside it", None, None, False), ("by rt ci", ".by-rattle", None, True),
+                                      ("newer than rt ci's second one", None, proved, False), ("by rt run", ".stamp", None, True),
+                                      ("with a newer proof", None, proof, False)):
+        if not os.path.exists(proved):
+            shutil.copy(os.path.join(folder, "target", "unproved", "list"), proved)
+        time.sleep(0.01)
+        if beside:
+            with open(proved + beside, "w", encoding="ascii"):
+                pass
         if newer:
-            time.sleep(0.01)
             os.utime(newer)
         done = start([run, "--build", "list"])
         yield f"run --build, {name}", done.stdout.endswith(b"list, proved\n") == says, done.stdout

@@ -22,7 +22,11 @@ def make(folder, path, text):
     os.chmod(path, stat.S_IRWXU)
 
 
-def gate(failing):
+# What rt ci prints where all is proved, with the words of its edits.
+PASSED = "rt: ok; handles allowed: none; must-fail edits: {}; every proof and must-fail edit was done in this run"
+
+
+def gate(failing, proofs="echo '7 passed, 0 failed'; exit 4"):
     """With one of the scripts failing, or none: the status, the lines, and whether it came to the proofs."""
     with tempfile.TemporaryDirectory() as folder:
         os.mkdir(os.path.join(folder, ".ci"))
@@ -30,14 +34,27 @@ def gate(failing):
         for script in SCRIPTS:
             make(folder, script, "echo '1 passed, 0 failed'; exit " + ("1" if script == failing else "0"))
         make(folder, "run", "echo built; exit " + ("1" if failing == "run" else "0"))
-        make(folder, "bin/rt", "touch proved; echo '7 passed, 0 failed'; exit 4")
+        make(folder, "bin/rt", f"[ \"$*\" = ci ] || exit 9; touch proved; {proofs}")
         path = f"{os.path.join(folder, 'bin')}:{os.environ['PATH']}"
         done = start([os.path.join(folder, ".ci", "run")], cwd="/", env={**os.environ, "PATH": path, "CI": "true"})
         return done.returncode, done.stdout.decode().split("\n")[:-1], os.path.exists(os.path.join(folder, "proved"))
 
 
+def edits():
+    """rt ci passes with bad edits and says so; the gate fails, and rt ci's last line is its last all the same."""
+    for words, bad in (("31 refused", None), ("31 refused, 0 bad", None), ("29 refused, 2 bad", 2), ("0 refused, 12 bad", 12),
+                       ("28 refused, 1 of them only by a limit, 3 bad", 3)):
+        status, lines, proved = gate(None, f"echo '{PASSED.format(words)}'; echo '7 passed, 0 failed'")
+        told = f"gate: FAILED: of the must-fail edits {bad} are bad: they could not be tried"
+        right = (status != DONE, told in lines, lines[-1], proved) == (bool(bad), bool(bad), "7 passed, 0 failed", True)
+        yield f"the gate, must-fail edits: {words}", right, (status, lines)
+    status, lines, proved = gate(None, "exit 2")
+    yield "the gate, rt ci that says nothing", (status, proved) == (2, True), (status, lines)
+
+
 def checks():
     yield "the gate runs what it should", DUE <= set(SCRIPTS), SCRIPTS
+    yield from edits()
     status, lines, proved = gate(None)
     yield "the gate, all well", (status, lines[-1], proved) == (4, "7 passed, 0 failed", True), (status, lines)
     yield "the gate, its lines have names", all(line.startswith(("gate: ", "tests/", "chip/")) for line in lines[:-1]), lines

@@ -6,7 +6,7 @@ from .words import begins_coarsely, date_of, period_words
 PROVED = (
     "Every function of the program list that judges the dump and works out and writes the listing: which entries the log holds, "
     "each one's seconds from the stamp and its temperature in sixteenths of a degree, for every dump. The build is taken for "
-    "proved because rt check or .ci/run made it and no source, definition or proof is newer; .ci/run proves all from nothing.")
+    "proved because rt run or .ci/run made it and no source, definition or proof is newer; .ci/run proves all from nothing.")
 PLAYED = {"play": " So are the functions of the program play, the tag whose dump this is.",
           "shed": " So are the functions of the program shed, to one of whose tags this dump belongs."}
 TESTED = "That list prints the pieces of the listing one after the other: its function main is proved to be safe and to end."
