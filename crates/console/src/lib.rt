@@ -70,6 +70,7 @@ pub fn reading_of(high: u8, low: u8) -> u16
 }
 
 // Puts what an answer prints at a place of `out`, as much of it as there is room for, and returns its length.
+#[tactic(auto, unfolding(crate::specs::Console::answer_text, crate::specs::Console::bit_text, answer::specs::Answer::refusal_text))]
 pub fn put_answer(out: &mut [u8], at: usize, number: u8, line: bool) -> usize
     ensures value { result ≡ length (answer_text number line) }
     ensures out_after { out.new ≡ sets out.old at (answer_text number line) }
@@ -83,6 +84,7 @@ pub fn put_answer(out: &mut [u8], at: usize, number: u8, line: bool) -> usize
     }
 }
 
+#[tactic(auto, unfolding(crate::specs::Console::bit_text))]
 fn put_bit(out: &mut [u8], at: usize, line: bool)
     ensures { out.new ≡ sets out.old at (bit_text line) }
 {
@@ -100,6 +102,7 @@ fn digit_of(line: bool) -> u8
     if line { b'1' } else { b'0' }
 }
 
+#[tactic(auto, using(bits::specs::Stores::sets_past))]
 fn put_refusal(out: &mut [u8], at: usize, number: u8)
     ensures { out.new ≡ sets out.old at (refusal_text number) }
 {
