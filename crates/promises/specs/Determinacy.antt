@@ -47,6 +47,7 @@ pub record Determinacy : Type 2 where
   pub bits_bit : Sole bits.bit.Reads.Post (λ k r e. r)
   pub bits_shift_in8 : Sole bits.shift_in8.Reads.Post (λ k r e. r)
   pub bits_shift_in64 : Sole bits.shift_in64.Reads.Post (λ k r e. r)
+  pub bits_parting : Sole bits.parting.Reads.Post (λ k r e. r)
   -- crc
   pub crc_crc16_bit : Sole crc.crc16_bit.Reads.Post (λ k r e. r)
   pub crc_crc16_byte : Sole crc.crc16_byte.Reads.Post (λ k r e. r)
@@ -204,6 +205,7 @@ determinacy =
       bits_bit = λ k a r s e f p q. p ∙ sym q;
       bits_shift_in8 = λ k a r s e f p q. p ∙ sym q;
       bits_shift_in64 = λ k a r s e f p q. p ∙ sym q;
+      bits_parting = λ k a r s e f p q. p ∙ sym q;
       crc_crc16_bit = λ k a r s e f p q. p ∙ sym q;
       crc_crc16_byte = λ k a r s e f p q. p ∙ sym q;
       crc_crc16_run = λ k a r s e f p q. p ∙ sym q;
