@@ -4,7 +4,6 @@ what no program of ours can be given."""
 import contextlib
 import os
 import pathlib
-import shutil
 import sys
 import tempfile
 
@@ -29,6 +28,5 @@ def compiled(name, crate):
     with folder:
         tools = kit.Kit()
         made = os.path.join(folder.name, name)
-        source = shutil.copy(DRIVER / f"{name}.rattle", f"{made}.rt")
-        library = tools.compile_library(source, kit.with_all_below(crate))
+        library = tools.compile_library(DRIVER / f"{name}.rattle", f"{made}_library.o", kit.with_all_below(crate))
         yield [*tools.runner(), tools.link(made, tools.compile_c(DRIVER / f"{name}.c", f"{made}.o"), library)]

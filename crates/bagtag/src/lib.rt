@@ -22,8 +22,7 @@ const HEAD: usize = 28;
 
 // A new tag. Refused with 3, with 6 for the record's length, with 4 or 5, in that order; where the record's length is right, a refusal
 // packs that of all zeros.
-#[unsafe(no_mangle)]
-pub extern "C" fn bagtag_new(image: &mut [u8], lent: &mut [u8], number: u64, code: u8) -> u8
+pub fn bagtag_new(image: &mut [u8], lent: &mut [u8], number: u64, code: u8) -> u8
     ensures value { result ≡ (new_call image.old lent.old number code).number }
     ensures image_after { image.new ≡ (new_call image.old lent.old number code).image }
     ensures lent_after { lent.new ≡ (new_call image.old lent.old number code).lent }
@@ -43,8 +42,7 @@ pub extern "C" fn bagtag_new(image: &mut [u8], lent: &mut [u8], number: u64, cod
 }
 
 // One event. Refused with 3, 6, 1 or 2, in that order; the line bit is then 1, and nothing else changes.
-#[unsafe(no_mangle)]
-pub extern "C" fn bagtag_event(
+pub fn bagtag_event(
     image: &mut [u8],
     lent: &mut [u8],
     code: u8,
@@ -75,8 +73,7 @@ pub extern "C" fn bagtag_event(
 
 // A list of events. Refused with 17, 3 or 6, in that order, and nothing is done; a word that is no event ends it with 1, and the words
 // before it are done.
-#[unsafe(no_mangle)]
-pub extern "C" fn bagtag_events(
+pub fn bagtag_events(
     image: &mut [u8],
     lent: &mut [u8],
     words: &[u16],
@@ -111,8 +108,7 @@ pub extern "C" fn bagtag_events(
 
 // The listing of a dump: the temperatures of the entries held, and in `head` what it says of them. Refused with 7, 9 or 8 by the dump's
 // lines, then 10, 11 or 12, also 12 if `head` is too short; then no lent byte and no place changes.
-#[unsafe(no_mangle)]
-pub extern "C" fn bagtag_list(dump: &[u8], temperatures: &mut [i32], head: &mut [u8]) -> u8
+pub fn bagtag_list(dump: &[u8], temperatures: &mut [i32], head: &mut [u8]) -> u8
     ensures value { result ≡ (list_call dump.now temperatures.old head.old).number }
     ensures temperatures_after { temperatures.new ≡ (list_call dump.now temperatures.old head.old).temperatures }
     ensures head_after { head.new ≡ (list_call dump.now temperatures.old head.old).head }

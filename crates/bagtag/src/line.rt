@@ -8,8 +8,7 @@ use board::Board;
 
 // A new line. Refused with 14, 3 or 13, with 6 for the records' length, then place by place with 4 or 5; where the records' length is right
 // for a count that a line can have, a refusal packs those of all zeros.
-#[unsafe(no_mangle)]
-pub extern "C" fn bagtag_line_new(
+pub fn bagtag_line_new(
     block: &mut [u8],
     records: &mut [u8],
     numbers: &[u64],
@@ -49,8 +48,7 @@ fn short_number(number: u8) -> u8
 }
 
 // One event of a line. Refused with 14, 3, 13, 6, 1 or 2, in that order; the line bit is then 1, and nothing else changes.
-#[unsafe(no_mangle)]
-pub extern "C" fn bagtag_line_event(
+pub fn bagtag_line_event(
     block: &mut [u8],
     records: &mut [u8],
     count: u8,
