@@ -9,16 +9,13 @@ import tempfile
 from collections import namedtuple
 
 import module
-from module import CRATE, HERE, kit
+from module import HERE, NAME, kit
 
 import elf
 
 INCLUDE = kit.TOP / "include"
 LEVEL = "-Os"
-LIBRARY, SUPPORT = f"lib{CRATE}.a", f"lib{CRATE}_support.a"
-# What the kit gives its compiler beside the processor, the level and what is for shared libraries.
-KIT_WORDS = ("--no-default-config", "-ffunction-sections", "-fdata-sections", "-mllvm", "-trap-unreachable",
-             "-mllvm", "-no-trap-after-noreturn", "-Werror")
+LIBRARY, SUPPORT = f"lib{NAME}.a", f"lib{NAME}_support.a"
 # The kit's compiler brings no headers.
 C_WORDS = ("-x", "c", "-std=c11", "-Wall", "-Wextra", "-fomit-frame-pointer", "-nostdinc", "-isystem", kit.TOP / "tests" / "include",
            "-I", INCLUDE)
@@ -46,7 +43,9 @@ class Maker:
     """The kit's tools for one chip; more words go to the compiler last."""
 
     def __init__(self, tools, chip, more=()):
-        self.chip, self.bin, self.words = chip, tools.tools / "bin", (*KIT_WORDS, *chip.words, LEVEL, *more)
+        self.chip, self.bin = chip, tools.tools / "bin"
+        # What the kit gives its compiler beside the processor, the level and what is for shared libraries.
+        self.words = ("--no-default-config", *kit.ANY_MODULE_WORDS, *chip.words, LEVEL, *more)
 
     def compile(self, source, made, *words, to="-c"):
         kit.call([self.bin / "clang", *self.words, *words, to, "-o", made, source])
@@ -68,7 +67,7 @@ class Maker:
 
     def parts(self, text, folder):
         """The sources of the library, each with the words that it is compiled with."""
-        lowered = folder / f"{CRATE}.ll"
+        lowered = folder / f"{NAME}.ll"
         lowered.write_text(module.retargeted(text, self.target(), self.chip.narrow))
         return [(lowered, ("-x", "ir"))] + ([(HERE / "wrapper.c", PART_WORDS)] if self.chip.narrow else [])
 
@@ -94,7 +93,7 @@ def make(maker, text, folder):
         if variables:
             raise kit.Missing(f"the library has {variables} bytes of variables, and should have none")
         archives = maker.archive(place / LIBRARY, *objects), maker.archive(place / SUPPORT, support)
-        for made in (*archives, place / f"{CRATE}.ll"):
+        for made in (*archives, place / f"{NAME}.ll"):
             made.replace(folder / made.name)
     return Built(folder, code, constants, needs)
 
