@@ -15,18 +15,17 @@ sys.path[:0] = [str(TOP / "bench"), str(TOP / "chip")]
 import kit
 import module
 
-CRATE = "bagtag"
+NAME, CRATE = "bagtag", "bagtag_c"  # of the library, and of the crate that exports its functions
 DRIVER, EXAMPLES = TESTS / "driver" / "library.c", TOP / "examples" / "c"
 STRICT = ("-Wall", "-Wextra", "-Wpedantic", "-Werror")
 OWN_HEADERS = ("-nostdinc", "-isystem", str(TESTS / "include"))
 WITH_SANITIZERS = ("gcc", "clang")  # the first that has one is taken
-PROCESSOR = '"target-cpu"="x86-64"'  # stands once in a module, among the attributes of its functions
 
 
 class Builds:
     def __init__(self, folder, library=None, top=TOP):
         self.folder, self.tools, self.include = pathlib.Path(folder), kit.Kit(), ("-I", str(top / "include"))
-        self.library = library or self.tools.compile_archive(self.folder / f"lib{CRATE}.a", CRATE, top)
+        self.library = library or self.tools.compile_archive(self.folder / f"lib{NAME}.a", CRATE, top)
 
     def clang(self, *words):
         """The words that call the kit's compiler for x86-64."""
@@ -46,7 +45,7 @@ class Builds:
     def sanitized_library(self):
         """The object file of the library's module, each access of which asks the sanitizer first."""
         source, made = self.folder / "sanitized.ll", self.folder / "sanitized.o"
-        source.write_text(module.text(self.tools, proved=False).replace(PROCESSOR, f"sanitize_address {PROCESSOR}"))
+        source.write_text(module.text(self.tools, proved=False).replace(kit.FOR_EVERY, f"sanitize_address {kit.FOR_EVERY}"))
         kit.call(self.clang("-fsanitize=address", "-O1", "-fPIE", "-x", "ir", "-c", "-o", made, source))
         return made
 

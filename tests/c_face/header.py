@@ -7,7 +7,7 @@ import subprocess
 import elf
 
 from . import packed
-from .builds import CRATE, OWN_HEADERS, STRICT, TESTS, TOP, kit, succeeds
+from .builds import NAME, OWN_HEADERS, STRICT, TESTS, TOP, kit, succeeds
 from .face import HEADER, RECORD
 
 C, CPP = ("c99", "c11"), ("c++11", "c++17")
@@ -93,8 +93,8 @@ def asserting(builds, numbers):
 def sending():
     """BAGTAG_SENDS is what it is proved of: the same condition, on the same bytes of a record."""
     macro = re.search(r"#define BAGTAG_SENDS\(record\) ((?:.*\\\n)*.*)", HEADER.read_text("utf-8"))
-    proved = re.search(r"(?m)^sendsBy choosing stage =((?:\n .*)+)", PROVED.read_text("utf-8"))
-    bytes_of = re.search(r"sendsBy \(getD lent (\d+) 0\) \(getD lent (\d+) 0\)", PROVED.read_text("utf-8"))
+    proved = re.search(r"(?m)^sends_by choosing stage =((?:\n .*)+)", PROVED.read_text("utf-8"))
+    bytes_of = re.search(r"sends_by \(get_or lent (\d+) 0\) \(get_or lent (\d+) 0\)", PROVED.read_text("utf-8"))
     if not (macro and proved and bytes_of):
         yield "BAGTAG_SENDS and what is proved of it are found", False, (macro, proved, bytes_of)
         return
@@ -120,7 +120,7 @@ def linked(builds):
     kit.call([archiver, "x", "--output", folder, builds.library])
     defined, wanted = map(set().union, *map(elf.symbols, folder.iterdir()))
     yield "the library has the header's six functions and no other", defined == {
-        f"{CRATE}_{name}" for name in ("new", "event", "events", "line_new", "line_event", "list")}, defined
+        f"{NAME}_{name}" for name in ("new", "event", "events", "line_new", "line_event", "list")}, defined
     yield "it needs memcpy and memset alone", wanted - defined == {"memcpy", "memset"}, wanted - defined
     _, _, variables = elf.sizes(*folder.iterdir())
     yield "it has no variables", variables == 0, variables
