@@ -22,6 +22,7 @@ const HEAD: usize = 28;
 
 // A new tag. Refused with 3, with 6 for the record's length, with 4 or 5, in that order; where the record's length is right, a refusal
 // packs that of all zeros.
+#[tactic(auto, using(crate::specs::Bagtag::Laws::fills), unfolding(crate::specs::Bagtag::new_call))]
 pub fn bagtag_new(image: &mut [u8], lent: &mut [u8], number: u64, code: u8) -> u8
     ensures value { result ≡ (new_call image.old lent.old number code).number }
     ensures image_after { image.new ≡ (new_call image.old lent.old number code).image }
@@ -42,13 +43,8 @@ pub fn bagtag_new(image: &mut [u8], lent: &mut [u8], number: u64, code: u8) -> u
 }
 
 // One event. Refused with 3, 6, 1 or 2, in that order; the line bit is then 1, and nothing else changes.
-pub fn bagtag_event(
-    image: &mut [u8],
-    lent: &mut [u8],
-    code: u8,
-    reading: u16,
-    line: &mut u8,
-) -> u8
+#[tactic(auto, using(crate::specs::Bagtag::Laws::fills, packing::specs::Packing::Laws::own_of), unfolding(crate::specs::Bagtag::event_call))]
+pub fn bagtag_event(image: &mut [u8], lent: &mut [u8], code: u8, reading: u16, line: &mut u8) -> u8
     ensures value { result ≡ (event_call image.old lent.old code reading).number }
     ensures image_after { image.new ≡ (event_call image.old lent.old code reading).image }
     ensures lent_after { lent.new ≡ (event_call image.old lent.old code reading).lent }
@@ -73,6 +69,7 @@ pub fn bagtag_event(
 
 // A list of events. Refused with 17, 3 or 6, in that order, and nothing is done; a word that is no event ends it with 1, and the words
 // before it are done.
+#[tactic(auto, unfolding(crate::specs::Bagtag::events_call))]
 pub fn bagtag_events(
     image: &mut [u8],
     lent: &mut [u8],
@@ -108,6 +105,7 @@ pub fn bagtag_events(
 
 // The listing of a dump: the temperatures of the entries held, and in `head` what it says of them. Refused with 7, 9 or 8 by the dump's
 // lines, then 10, 11 or 12, also 12 if `head` is too short; then no lent byte and no place changes.
+#[tactic(auto, using(crate::specs::Bagtag::Laws::room_not_zero, crate::specs::Bagtag::Laws::list_short, crate::specs::Bagtag::Laws::list_accepted, crate::specs::Bagtag::Laws::list_refused, dock::specs::Listing::Laws::answer_listing))]
 pub fn bagtag_list(dump: &[u8], temperatures: &mut [i32], head: &mut [u8]) -> u8
     ensures value { result ≡ (list_call dump.now temperatures.old head.old).number }
     ensures temperatures_after { temperatures.new ≡ (list_call dump.now temperatures.old head.old).temperatures }
@@ -138,6 +136,7 @@ fn short_head(dump: &[u8]) -> u8
 }
 
 // What a listing says, low byte first: code, 0, stamp, entries held, first entry, its seconds, period.
+#[tactic(auto, using(crate::specs::Bagtag::Laws::head_stored))]
 fn put_head(head: &mut [u8], listing: Listing)
     ensures head_after { head.new ≡ sets head.old 0 (head_of listing) }
     ensures head_fits { HeadFits listing }

@@ -8,12 +8,7 @@ use board::Board;
 
 // A new line. Refused with 14, 3 or 13, with 6 for the records' length, then place by place with 4 or 5; where the records' length is right
 // for a count that a line can have, a refusal packs those of all zeros.
-pub fn bagtag_line_new(
-    block: &mut [u8],
-    records: &mut [u8],
-    numbers: &[u64],
-    codes: &[u8],
-) -> u8
+pub fn bagtag_line_new(block: &mut [u8], records: &mut [u8], numbers: &[u64], codes: &[u8]) -> u8
     ensures value { result ≡ (new_line_call block.old records.old numbers.now codes.now).number }
     ensures block_after { block.new ≡ (new_line_call block.old records.old numbers.now codes.now).block }
     ensures records_after { records.new ≡ (new_line_call block.old records.old numbers.now codes.now).records }
@@ -36,6 +31,7 @@ pub fn bagtag_line_new(
 }
 
 // The number of a new line whose records have another length: 6 stands before 4 and 5.
+#[tactic(auto, unfolding(crate::specs::Line::short_number))]
 fn short_number(number: u8) -> u8
     ensures { result ≡ short_number number }
 {
