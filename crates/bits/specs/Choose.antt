@@ -1,5 +1,5 @@
 -- A choice between two values, written as a reader says it, and its laws. Assumes nothing.
-use Rattle.std.specs.Prelude.{Bool, true, false, cond, ◌≡◌, refl, if◌then◌else◌}
+use Rattle.std.specs.Prelude.{Bool, true, false, ◌≡◌, refl, if◌then◌else◌}
 
 -- what holds of both, each where it is chosen, holds of the choice between them
 pub either : {A : Type 0} (P : A → Type 0) (test : Bool) {a b : A} → (test ≡ true → P a) → (test ≡ false → P b) →
