@@ -8,6 +8,7 @@ use board::Board;
 
 // A new line. Refused with 14, 3 or 13, with 6 for the records' length, then place by place with 4 or 5; where the records' length is right
 // for a count that a line can have, a refusal packs those of all zeros.
+#[tactic(auto, using(rack::specs::Rack::Back::fills, rack::specs::Rack::Laws::room, board::specs::Board::Laws::counted), unfolding(crate::specs::Line::new_line_call))]
 pub fn bagtag_line_new(block: &mut [u8], records: &mut [u8], numbers: &[u64], codes: &[u8]) -> u8
     ensures value { result ≡ (new_line_call block.old records.old numbers.now codes.now).number }
     ensures block_after { block.new ≡ (new_line_call block.old records.old numbers.now codes.now).block }
@@ -44,6 +45,7 @@ fn short_number(number: u8) -> u8
 }
 
 // One event of a line. Refused with 14, 3, 13, 6, 1 or 2, in that order; the line bit is then 1, and nothing else changes.
+#[tactic(auto, unfolding(crate::specs::Line::line_call))]
 pub fn bagtag_line_event(
     block: &mut [u8],
     records: &mut [u8],

@@ -1,6 +1,6 @@
 -- `bagtag::put_counts` meets its contract: four numbers one behind the other, each within its bytes. Assumes nothing.
 use borrow.Author.Rules.{sfits_of}
-use Rattle.std.proofs.Common.{◌^◌, ◌<◌, w64, sym, ◌∙◌, arith}
+use Rattle.std.proofs.Common.{◌^◌, ◌<◌, w64, arith}
 use Rattle.std.proofs.lemmas.Int.{to_z-of_z}
 use Rattle.dock.specs.Entries.{period_of}
 use Rattle.dock.specs.Listing.{seconds_at}
