@@ -49,7 +49,7 @@ pub fn bagtag_event(image: &mut [u8], lent: &mut [u8], code: u8, reading: u16, l
     ensures value { result ≡ (event_call image.old lent.old code reading).number }
     ensures image_after { image.new ≡ (event_call image.old lent.old code reading).image }
     ensures lent_after { lent.new ≡ (event_call image.old lent.old code reading).lent }
-    ensures line_after_lem { line.new ≡ (event_call image.old lent.old code reading).line }
+    ensures line_after { line.new ≡ (event_call image.old lent.old code reading).line }
     ensures bytes { Bytes lent.old }
     ensures event_fits { EventFits image.old lent.old code reading }
 {

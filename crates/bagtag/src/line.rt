@@ -58,7 +58,7 @@ pub fn bagtag_line_event(
     ensures value { result ≡ (line_call block.old records.old count code place reading).number }
     ensures block_after { block.new ≡ (line_call block.old records.old count code place reading).block }
     ensures records_after { records.new ≡ (line_call block.old records.old count code place reading).records }
-    ensures line_after_lem { line.new ≡ (line_call block.old records.old count code place reading).line }
+    ensures line_after { line.new ≡ (line_call block.old records.old count code place reading).line }
     ensures bytes { Bytes records.old }
     ensures line_fits { LineFits block.old records.old count code place reading }
 {

@@ -33,7 +33,7 @@ pub extern "C" fn bagtag_event(
     ensures value { result ≡ (event_call image.old lent.old code reading).number }
     ensures image_after { image.new ≡ (event_call image.old lent.old code reading).image }
     ensures lent_after { lent.new ≡ (event_call image.old lent.old code reading).lent }
-    ensures line_after_lem { line.new ≡ (event_call image.old lent.old code reading).line }
+    ensures line_after { line.new ≡ (event_call image.old lent.old code reading).line }
     ensures bytes { Bytes lent.old }
     ensures event_fits { EventFits image.old lent.old code reading }
 {
@@ -104,7 +104,7 @@ pub extern "C" fn bagtag_line_event(
     ensures value { result ≡ (line_call block.old records.old count code place reading).number }
     ensures block_after { block.new ≡ (line_call block.old records.old count code place reading).block }
     ensures records_after { records.new ≡ (line_call block.old records.old count code place reading).records }
-    ensures line_after_lem { line.new ≡ (line_call block.old records.old count code place reading).line }
+    ensures line_after { line.new ≡ (line_call block.old records.old count code place reading).line }
     ensures bytes { Bytes records.old }
     ensures line_fits { LineFits block.old records.old count code place reading }
 {

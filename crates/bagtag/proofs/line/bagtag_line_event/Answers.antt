@@ -10,8 +10,8 @@ use Rattle.rack.specs.Rack.Laws.{racked}
 use Rattle.bagtag.specs.Line.Laws.{line_done, line_refused, done_counted}
 use Rattle.bagtag.proofs.line.bagtag_line_event.Goals as goal
 
-pub returns-then-number-ne0-clause-line_after_lem : goal.returns-then-number-ne0-clause-line_after_lem
-returns-then-number-ne0-clause-line_after_lem c =
+pub returns-then-number-ne0-clause-line_after : goal.returns-then-number-ne0-clause-line_after
+returns-then-number-ne0-clause-line_after c =
     let a = c.args in
     let own : is_rack a.records.now a.count ≡ true = search rules in
     let shown : c.event-shown.result ≡ (line_step a.block.now (board_in a.records.now a.count) a.code a.place a.reading).shown =
