@@ -2,7 +2,7 @@
 // Every function answers any input.
 #![tactic(auto)]
 
-ghost use Rattle.std.specs.Prelude.{◌≡◌};
+ghost use Rattle.std.specs.Prelude.{◌≡◌, ℕ, ◌+◌, ◌-◌, ◌/◌, ◌^◌, ◌<◌};
 ghost use Rattle.bits.specs.Bits.{digit, bit_of, shift_in};
 ghost use Rattle.bits.specs.Parting.{parting_of};
 
@@ -10,37 +10,83 @@ ghost use Rattle.bits.specs.Parting.{parting_of};
 pub fn digit(bit: bool) -> u8
     ensures { result ≡ digit bit }
 {
-    if bit { 1 } else { 0 }
+    u8::from(bit)
 }
 
 // Bit `at` of `n`, counted from the low end; past the top a number has only zeros.
+#[tactic(auto, unfolding(crate::specs::Bits::bit_of))]
 pub fn bit(n: u64, at: u8) -> bool
     ensures { result ≡ bit_of n at }
 {
-    if at < 64 { (n >> at) % 2 == 1 } else { false }
+    at < 64 && (n >> at) % 2 == 1
 }
 
-// A byte with one more bit heard. The bit heard first ends lowest once eight have come.
-pub fn shift_in8(heard: u8, bit: bool) -> u8
-    ensures { result ≡ shift_in 8 heard bit }
-{
-    if bit { heard / 2 + 128 } else { heard / 2 }
+// A register that hears bits: a byte, or the 64 bits of a password field.
+pub trait Register {
+    // How many bits it has, and the number that they are.
+    ghost width: { ℕ };
+
+    ghost number: { Self → ℕ };
+
+    // What it holds moves down by one bit.
+    fn half(self) -> Self
+        ensures moved { number result ≡ number self / 2 }
+        ensures free { number result < 2 ^ (width - 1) };
+
+    // One more bit, at its top.
+    fn topped(self) -> Self
+        requires { number self < 2 ^ (width - 1) }
+        ensures { number result ≡ number self + 2 ^ (width - 1) };
+
+    // No two registers hold one number.
+    ghost same: { (a b : Self) → number a ≡ number b → a ≡ b };
 }
 
-// The same for the 64 bits of a password field.
-pub fn shift_in64(heard: u64, bit: bool) -> u64
-    ensures { result ≡ shift_in 64 heard bit }
-{
-    if bit {
-        heard / 2 + 9223372036854775808
-    } else {
-        heard / 2
+impl Register for u8 {
+    ghost width = { 8 };
+
+    ghost number = { λ n. n };
+
+    ghost same = { λ a b e. e };
+
+    fn half(self) -> u8 {
+        self / 2
+    }
+
+    fn topped(self) -> u8 {
+        self + 128
     }
 }
 
+impl Register for u64 {
+    ghost width = { 64 };
+
+    ghost number = { λ n. n };
+
+    ghost same = { λ a b e. e };
+
+    fn half(self) -> u64 {
+        self / 2
+    }
+
+    fn topped(self) -> u64 {
+        self + (1 << 63)
+    }
+}
+
+// A register with one more bit heard. The bit heard first ends lowest once as many have come as it has bits.
+#[tactic(auto, unfolding(crate::specs::Bits::shift_in))]
+pub fn shift_in<R: Register>(heard: R, bit: bool) -> R
+    ensures { R.number result ≡ shift_in R.width (R.number heard) bit }
+{
+    let half = heard.half();
+    if bit { half.topped() } else { half }
+}
+
 // The first bit where two numbers part, counted from the low end; 64 if they are equal.
+#[tactic(auto, using(crate::specs::Parting::Laws::trailing_parting))]
 pub fn parting(a: u64, b: u64) -> u32
     ensures { result ≡ parting_of 64 a b }
 {
-    u64::trailing_zeros(a ^ b)
+    (a ^ b).trailing_zeros()
 }
