@@ -1,72 +1,86 @@
-// CRC-8 and CRC-16 of the 1-Wire line, low bit first. CRC-16 goes by half-bytes, from tables (`halves`). CRC-8 goes bit by bit: with its
-// polynomial a constant in the loop, the compiler makes a table of it. Every function answers any input.
+// CRC-8 and CRC-16 of the 1-Wire line, low bit first: one step for both, over the polynomial. CRC-16 goes by half-bytes, from tables
+// (`halves`). CRC-8 goes bit by bit: with its polynomial a constant in the loop, the compiler makes a table of it. Every function answers
+// any input.
 #![tactic(auto)]
 
 ghost use Rattle.std.specs.Prelude.{[], ◌∷◌, ◌≡◌};
 ghost use Rattle.bits.specs.Bits.{bit_of};
-ghost use Rattle.crc.specs.Crc.{crc16_bit, crc16_byte, crc16_run, sent_low, sent_high, crc8_bit, crc8_byte, crc8_of, good_crc};
+ghost use Rattle.crc.specs.Crc.{crc16_bit, crc16_byte, crc16_run, sent_low, sent_high, crc8_bit, crc8_byte, crc8_of, good_crc, crc_bit, crc_byte};
 
 mod halves;
 
 // x^16+x^15+x^2+1 as a register's bits: low bit first, so the term 1 is its top bit, and x^16 is left out.
 const CRC16: u16 = 0xA001;
 
-// x^8+x^5+x^4+1 likewise, in a register of 8 bits.
-const CRC8: u8 = 0x8C;
+// x^8+x^5+x^4+1 likewise, in the low 8 bits, in which the register then stays.
+const CRC8: u16 = 0x8C;
 
-// The CRC-16 register with one more bit.
-pub fn crc16_bit(crc: u16, bit: bool) -> u16
-    ensures { result ≡ crc16_bit crc bit }
+// The register of the CRC with this polynomial, with one more bit.
+fn crc_bit<const MASK: u16>(crc: u16, bit: bool) -> u16
+    ensures { result ≡ crc_bit MASK crc bit }
 {
-    if (crc ^ bit as u16) % 2 == 1 {
-        CRC16 ^ (crc / 2)
+    if (crc ^ u16::from(bit)) % 2 == 1 {
+        MASK ^ (crc / 2)
     } else {
         crc / 2
     }
 }
 
+// The same with one more byte, low bit first: it is added to the register, and eight zeros come in.
+#[tactic(auto, using(crate::specs::Crc::Laws::byte_ends, crate::specs::Crc::Linear::byte_zeros))]
+fn crc_byte<const MASK: u16>(crc: u16, byte: u8) -> u16
+    ensures { result ≡ crc_byte MASK crc byte }
+{
+    let mut r = crc ^ u16::from(byte);
+    for _ in 0..8u8 {
+        r = crc_bit::<MASK>(r, false);
+    }
+    r
+}
+
+// The CRC-16 register with one more bit.
+#[tactic(auto, unfolding(crate::specs::Crc::mask16, crate::specs::Crc::taps))]
+pub fn crc16_bit(crc: u16, bit: bool) -> u16
+    ensures { result ≡ crc16_bit crc bit }
+{
+    crc_bit::<CRC16>(crc, bit)
+}
+
 // The CRC-16 register with one more byte, low bit first.
+#[tactic(auto, using(crate::proofs::Crc::Halves::byte_tabled_lem))]
 pub fn crc16_byte(crc: u16, byte: u8) -> u16
     ensures { result ≡ crc16_byte crc byte }
 {
-    let out = (crc % 256) as u8 ^ byte;
-    halves::after_8(out) ^ halves::after_4(out / 16) ^ (crc / 256)
+    let [low, high] = crc.to_le_bytes();
+    halves::byte_tabled(0, low ^ byte) ^ u16::from(high)
 }
 
 // The CRC-16 register with all of these bytes, first to last: four at a time, and those that are left.
+#[tactic(auto, using(crate::specs::Crc::Laws::run_more, crate::specs::Crc::Laws::run_none))]
 pub fn crc16_run(crc: u16, bytes: &[u8]) -> u16
     ensures { result ≡ crc16_run crc bytes.now }
 {
-    let fours = bytes.len() / 4;
+    let (fours, rest) = bytes.as_chunks::<4>();
     let mut r = crc;
-    for i in 0..fours {
-        let at = 4 * i;
-        r = crc16_four(r, bytes[at], bytes[at + 1], bytes[at + 2], bytes[at + 3]);
+    for &[a, b, c, d] in fours {
+        r = crc16_four(r, a, b, c, d);
     }
-    crc16_each(r, &bytes[4 * fours..])
+    for &byte in rest {
+        r = crc16_byte(r, byte);
+    }
+    r
 }
 
 // The CRC-16 register with four more bytes. The two that meet the register come last: they alone wait for the four before.
+#[tactic(auto, using(crate::proofs::Crc::Halves::four_tabled))]
 fn crc16_four(crc: u16, a: u8, b: u8, c: u8, d: u8) -> u16
     ensures { result ≡ crc16_run crc (a ∷ b ∷ c ∷ d ∷ []) }
 {
-    let mut r = halves::after_16(c) ^ halves::after_12(c / 16);
-    r = r ^ (halves::after_8(d) ^ halves::after_4(d / 16));
-    let high = (crc / 256) as u8 ^ b;
-    r = r ^ (halves::after_24(high) ^ halves::after_20(high / 16));
-    let low = (crc % 256) as u8 ^ a;
-    r ^ (halves::after_32(low) ^ halves::after_28(low / 16))
-}
-
-// The CRC-16 register with all of these bytes, one after the other.
-fn crc16_each(crc: u16, bytes: &[u8]) -> u16
-    ensures { result ≡ crc16_run crc bytes.now }
-{
-    let mut r = crc;
-    for i in 0..bytes.len() {
-        r = crc16_byte(r, bytes[i]);
-    }
-    r
+    let [low, high] = crc.to_le_bytes();
+    halves::byte_tabled(2, c)
+        ^ halves::byte_tabled(0, d)
+        ^ halves::byte_tabled(4, high ^ b)
+        ^ halves::byte_tabled(6, low ^ a)
 }
 
 // The first of the two bytes that are sent: the low one, inverted.
@@ -74,7 +88,8 @@ fn crc16_each(crc: u16, bytes: &[u8]) -> u16
 pub fn sent_low(crc: u16) -> u8
     ensures { result ≡ sent_low crc }
 {
-    255 - (crc % 256) as u8
+    let [low, _] = crc.to_le_bytes();
+    !low
 }
 
 // The second of the two bytes that are sent: the high one, inverted.
@@ -82,49 +97,26 @@ pub fn sent_low(crc: u16) -> u8
 pub fn sent_high(crc: u16) -> u8
     ensures { result ≡ sent_high crc }
 {
-    255 - (crc / 256) as u8
+    let [_, high] = crc.to_le_bytes();
+    !high
 }
 
 // CRC-8 of the low seven bytes of a registration number.
+#[tactic(auto, using(crate::specs::Crc::Laws::run_more, crate::specs::Crc::Laws::run_none))]
 pub fn crc8(number: u64) -> u8
     ensures { result ≡ crc8_of number }
 {
     let mut r = 0;
-    let mut rest = number;
-    for i in 0..7u8 {
-        r = crc8_byte(r, (rest % 256) as u8);
-        rest = rest / 256;
+    for &byte in &number.to_le_bytes()[..7] {
+        r = crc_byte::<CRC8>(r, byte);
     }
-    r
+    r as u8
 }
 
 // Is the eighth byte of a registration number the CRC-8 of the seven below?
+#[tactic(auto, unfolding(crate::specs::Crc::good_crc))]
 pub fn good_crc(number: u64) -> bool
     ensures { result ≡ good_crc number }
 {
-    crc8(number) as u64 == number >> 56
-}
-
-// The CRC-8 register with one more byte, low bit first.
-fn crc8_byte(crc: u8, byte: u8) -> u8
-    ensures { result ≡ crc8_byte crc byte }
-{
-    let mut r = crc;
-    let mut rest = byte;
-    for i in 0..8u8 {
-        r = crc8_low(r, rest);
-        rest = rest / 2;
-    }
-    r
-}
-
-// The CRC-8 register with one more bit, the lowest of a number.
-fn crc8_low(crc: u8, number: u8) -> u8
-    ensures { result ≡ crc8_bit crc (bit_of number 0) }
-{
-    if (crc ^ number) % 2 == 1 {
-        CRC8 ^ (crc / 2)
-    } else {
-        crc / 2
-    }
+    u64::from(crc8(number)) == number >> 56
 }

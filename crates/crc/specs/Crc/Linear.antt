@@ -3,7 +3,7 @@
 use Rattle.std.specs.Prelude.{◌≡◌, refl, Bool, true, false, List, [], ◌∷◌, ℕ, zero, suc, ◌+◌, ◌*◌, ◌/◌, ◌%◌, ◌^◌, ◌<◌, length, if◌then◌else◌}
 use Rattle.std.proofs.Common.{sym, ap, ◌∙◌, div-add-mod', mod-lt, mod-eq_of_lt, zero-mul, zero-add, arith, pow_pos}
 use Rattle.std.proofs.Math.Bool.{xor}
-use Rattle.std.proofs.Math.Nat.{zero-div}
+use Rattle.std.proofs.Math.Nat.{zero-div, div-eq_of_lt}
 use Rattle.std.proofs.Math.Arith.{bin_ind, digits_div, digits_mod}
 use Rattle.std.specs.Int.Bits.{bit_xor, xor_zero_l, xor_zero_r, xor_self}
 use Rattle.std.proofs.lemmas.Nat.{xor_comm, xor_shr, xor_mod, xor_block}
@@ -132,6 +132,14 @@ unfolding crc_byte crc_bits bits_of
 byte_at_once mask r {byte} small =
     let out : bit_xor r byte % 2 ^ 8 ≡ bit_xor (r % 256) byte = xor_mod r byte 8 ∙ ap (bit_xor (r % 256)) (mod-eq_of_lt small) in
     rw out at (bits_at_once mask 8 0 r byte)
+
+-- so a byte may as well be added to the register before eight zeros come in
+pub byte_zeros : (mask r : ℕ) {byte : ℕ} → byte < 256 → crc_byte mask r byte ≡ after_zeros mask 8 (bit_xor r byte)
+unfolding crc_bits bits_of
+byte_zeros mask r {byte} small =
+    let low : bit_xor r byte % 2 ^ 8 ≡ bit_xor (r % 256) byte = xor_mod r byte 8 ∙ ap (bit_xor (r % 256)) (mod-eq_of_lt small) in
+    let high : bit_xor r byte / 2 ^ 8 ≡ r / 256 = xor_shr r byte 8 ∙ ap (bit_xor (r / 256)) (div-eq_of_lt small) ∙ xor_zero_r (r / 256) in
+    byte_at_once mask r small ∙ sym (rw (low, high) at (zeros_at_once mask 8 0 (bit_xor r byte)))
 
 -- and with more bytes after it
 pub run_at_once : (mask r : ℕ) {byte : ℕ} (bytes : List ℕ) → byte < 256 → crc_run mask r (byte ∷ bytes)
