@@ -1,6 +1,6 @@
 -- Numbers as text: "digits 0-9 A-F" (document 01, "Events and what they return", number 7), "numbers high byte first, upper
 -- case" ("The dump and its listing"). A text is the list of its characters' codes. Assumes nothing.
-use Rattle.std.specs.Prelude.{Bool, true, false, ◌&&◌, List, [], ◌∷◌, ◌++◌, ℕ, zero, suc, ◌+◌, ◌-◌, ◌*◌, ◌/◌, ◌%◌, ltb, leb, get_or, if◌then◌else◌}
+use Rattle.std.specs.Prelude.{Option, Some, None, Bool, true, false, ◌&&◌, List, [], ◌∷◌, ◌++◌, ℕ, zero, suc, ◌+◌, ◌-◌, ◌*◌, ◌/◌, ◌%◌, ltb, leb, get_or, if◌then◌else◌}
 use Rattle.hexadecimal.specs.declared.Pair.{Pair}
 use Rattle.hexadecimal.specs.declared.Pair.TheVariants.{Byte, Bad}
 pub mod Laws
@@ -31,6 +31,10 @@ nibble_of c =
     if leb 0x30 c && leb c 0x39 then c - 0x30
     else if leb 0x41 c && leb c 0x46 then c - 0x37
     else 16
+
+-- and as an answer that says which characters are digits
+unfoldable pub digit_of : ℕ → Option ℕ
+digit_of c = if ltb (nibble_of c) 16 then Some (nibble_of c) else None
 
 -- two digits, high digit first
 unfoldable pub pair_of : ℕ → ℕ → Pair

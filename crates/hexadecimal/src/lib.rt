@@ -4,7 +4,7 @@
 
 ghost use Rattle.std.specs.Prelude.{◌≡◌};
 ghost use Rattle.std.proofs.lemmas.List.Edits.{sets};
-ghost use Rattle.hexadecimal.specs.Hex.{hex_of, nibble_of, pair_at};
+ghost use Rattle.hexadecimal.specs.Hex.{hex_of, digit_of, pair_at};
 
 // What two characters say.
 #[derive(Drop)]
@@ -14,38 +14,34 @@ pub enum Pair {
     Bad,
 }
 
+static DIGITS: [u8; 16] = *b"0123456789ABCDEF";
+
 // The pair of digits at `at`, high digit first.
-#[tactic(auto, using(crate::specs::Hex::Laws::pair_past), unfolding(crate::specs::Hex::pair_at, crate::specs::Hex::pair_of))]
+#[tactic(auto, using(crate::specs::Hex::Laws::pair_past, crate::specs::Hex::Laws::pair_rest, crate::specs::Hex::Laws::digit_value, crate::specs::Hex::Laws::digit_none), unfolding(crate::specs::Hex::pair_of))]
 pub fn pair_at(text: &[u8], at: usize) -> Pair
     ensures { result ≡ pair_at text.now at }
 {
-    if text.len() <= at {
+    let Some([high, low, ..]) = text.get(at..) else {
         return Pair::Bad;
-    }
-    let next = at + 1;
-    if text.len() <= next {
+    };
+    let Some(high) = nibble(*high) else {
         return Pair::Bad;
-    }
-    let high = nibble(text[at]);
-    if 16 <= high {
+    };
+    let Some(low) = nibble(*low) else {
         return Pair::Bad;
-    }
-    let low = nibble(text[next]);
-    if 16 <= low {
-        return Pair::Bad;
-    }
+    };
     Pair::Byte(high * 16 + low)
 }
 
-// What a digit stands for; 16 for any other character.
-#[tactic(auto, unfolding(crate::specs::Hex::nibble_of))]
-pub fn nibble(character: u8) -> u8
-    ensures { result ≡ nibble_of character }
+// What a digit stands for.
+#[tactic(auto, unfolding(crate::specs::Hex::digit_of, crate::specs::Hex::nibble_of))]
+pub fn nibble(character: u8) -> Option<u8>
+    ensures { result ≡ digit_of character }
 {
     match character {
-        b'0'..=b'9' => character - 0x30,
-        b'A'..=b'F' => character - 0x37,
-        _ => 16,
+        b'0'..=b'9' => Some(character - b'0'),
+        b'A'..=b'F' => Some(character - b'A' + 10),
+        _ => None,
     }
 }
 
@@ -53,17 +49,11 @@ pub fn nibble(character: u8) -> u8
 pub fn put_hex(out: &mut [u8], at: usize, value: u64, digits: usize)
     ensures { out.new ≡ sets out.old at (hex_of digits value) }
 {
-    if out.len() <= at {
-        return;
-    }
-    let all = b"0123456789ABCDEF";
-    let room = out.len() - at;
+    let room = out.len().saturating_sub(at);
     let mut rest = value;
-    let mut left = digits;
-    while 0 < left {
-        left -= 1;
+    for left in (0..digits).rev() {
         if left < room {
-            out[at + left] = all[(rest % 16) as usize];
+            out[at + left] = DIGITS[(rest % 16) as usize];
         }
         rest /= 16;
     }

@@ -2,14 +2,11 @@
 -- Assumes nothing.
 use Rattle.std.proofs.Common.{◌≡◌, ◌+◌, ◌-◌, set, ap, sym, ◌∙◌, arith}
 use Rattle.std.proofs.Math.Seq.{set_out}
-use Rattle.hexadecimal.specs.Hex.{hex_digit, hex_of}
+use Rattle.hexadecimal.specs.Hex.{hex_digit}
 use Rattle.hexadecimal.specs.Hex.Laws.{digit_listed}
-use Rattle.hexadecimal.specs.Hex.Stores.{put_last, put_none, sets_past}
+use Rattle.hexadecimal.specs.Hex.Stores.{put_last, put_none}
 use Rattle.hexadecimal.proofs.put_hex.Goals as goal
 use Rattle.hexadecimal.proofs.put_hex.Goals.{then-left-room, else-left-room}
-
-pub returns-then-out-at : goal.returns-then-out-at
-returns-then-out-at c = sym (sets_past c.args.out.now c.args.at (hex_of c.args.digits c.args.value) c.if-out-at.true)
 
 pub loop-left-preserved : goal.loop-left-preserved
 loop-left-preserved c =

@@ -1,13 +1,16 @@
 -- Digits and the numbers that they stand for lead back to each other. Assumes nothing.
-use Rattle.std.specs.Prelude.{◌≡◌, refl, Bool, true, false, List, [], ◌∷◌, ℕ, zero, suc, ◌+◌, ◌-◌, ◌*◌, ◌/◌, ◌%◌, ◌≤◌, ◌<◌, ltb, eqb, length, get_or, if◌then◌else◌}
-use Rattle.std.proofs.Common.{sym, ◌∙◌, arith, lt-ltb, le-ltb, le-leb, ltb-true, eqb→eq, length-append}
+use Rattle.std.specs.Prelude.{◌≡◌, refl, Some, None, Bool, true, false, List, [], ◌∷◌, ℕ, zero, suc, ◌+◌, ◌-◌, ◌*◌, ◌/◌, ◌%◌, ◌≤◌, ◌<◌, ltb, eqb, length, get_or, drop, if◌then◌else◌}
+use Rattle.std.proofs.Common.{sym, ◌∙◌, arith, lt-ltb, le-ltb, le-leb, ltb-true, eqb→eq, length-append, length-drop, take_all, add-zero}
 use Rattle.std.proofs.Math.Bool.{and-eq-true_iff, and-false}
 use Rattle.std.proofs.Math.Nat.{mod-mod}
 use Rattle.std.proofs.Math.Decide.{dec_lt}
 use Rattle.std.proofs.lemmas.Bool.{lt-leb}
+use Rattle.std.specs.List.{slice_range}
+use Rattle.std.proofs.lemmas.List.{get_or-drop}
+use Rattle.std.proofs.lemmas.Option.{cond_some, none-some}
 use Rattle.std.proofs.Math.ListN.{get_or-eq_default}
 use Rattle.bits.specs.Each.{each_at}
-use Rattle.hexadecimal.specs.Hex.{hex_digit, hex_of, nibble_of, pair_of, pair_at, is_byte, byte_of}
+use Rattle.hexadecimal.specs.Hex.{hex_digit, hex_of, nibble_of, digit_of, pair_of, pair_at, is_byte, byte_of}
 use Rattle.hexadecimal.specs.declared.Pair.TheVariants.{Byte, Bad}
 
 -- ---- one digit
@@ -37,6 +40,21 @@ nibble_between c h k = simp (le-leb 0x30 c (omega arith), lt-leb c 0x39 h, lt-le
 pub nibble_above : (c : ℕ) → 0x46 < c → nibble_of c ≡ 16
 unfolding nibble_of
 nibble_above c h = simp (le-leb 0x30 c (omega arith), lt-leb c 0x39 (omega arith), le-leb 0x41 c (omega arith), lt-leb c 0x46 h)
+
+-- the same of the answer that says which characters are digits
+pub digit_value : (c : ℕ) {n : ℕ} → digit_of c ≡ Some n → (nibble_of c ≡ n) × (n < 16)
+unfolding digit_of
+digit_value c {n} e =
+    let some = cond_some (ltb (nibble_of c) 16) (nibble_of c) n e in
+    (some.1, omega (arith, some.1, ltb-true (nibble_of c) 16 some.0))
+
+pub digit_none : (c : ℕ) → digit_of c ≡ None → 16 ≤ nibble_of c
+unfolding digit_of
+digit_none c e = by (dec_lt (nibble_of c) 16)
+  where
+    by : Dec (nibble_of c < 16) → 16 ≤ nibble_of c
+    by (yes h) = absurd (none-some (nibble_of c) (sym (rw (lt-ltb (nibble_of c) 16 h) at e)))
+    by (no h) = omega arith
 
 -- which digit a number's low four bits have
 pub digit_decimal : (n : ℕ) → n % 16 < 10 → hex_digit n ≡ 0x30 + n % 16
@@ -108,6 +126,13 @@ pub pair_past : (text : List ℕ) (at : ℕ) → length text ≤ at + 1 → pair
 unfolding pair_at
 pair_past text at h =
     rw (get_or-eq_default text 0 h) (pair_bad_low (get_or text at 0) 0 (omega (arith, nibble_below 0 (omega arith))))
+
+-- before it, the pair is of the first two characters of the rest
+pub pair_rest : (text : List ℕ) (at : ℕ) → pair_at text at ≡ pair_of (get_or (slice_range text at (length text)) 0 0) (get_or (slice_range text at (length text)) 1 0)
+unfolding pair_at
+pair_rest text at =
+    let whole = take_all (length text - at) (drop at text) (omega (arith, length-drop at text)) in
+    rw (whole, get_or-drop at text 0 0, get_or-drop at text 1 0, add-zero)
 
 -- the two digits of a byte read again
 pub pair_hex : (b : ℕ) → b < 256 → pair_of (hex_digit (b / 16)) (hex_digit b) ≡ Byte b
