@@ -7,7 +7,7 @@ ghost use Rattle.std.specs.Prelude.{true, false, ◌≡◌};
 ghost use Rattle.calendar.specs.Calendar.{is_valid, step_along, twelve_hours, step_field, step_hours, step_month, is_leap, days_in, flipped, next_day, next_second};
 
 // The registers 0200h-0205h. `month` holds CENT in bit 7 and the month in bits 4-0.
-#[derive(Drop)]
+#[derive(Clone, Copy)]
 pub struct Clock {
     pub seconds: u8,
     pub minutes: u8,
@@ -18,7 +18,7 @@ pub struct Clock {
 }
 
 // What a field becomes as it steps, and whether it carries to the next.
-#[derive(Drop)]
+#[derive(Clone, Copy)]
 pub struct Stepped {
     pub byte: u8,
     pub carry: bool,
@@ -29,23 +29,28 @@ pub struct Stepped {
 pub fn next(clock: Clock) -> Clock
     ensures { result ≡ next_second clock }
 {
-    let mut c = clock;
-    let seconds = step_seconds(c.seconds);
-    c.seconds = seconds.byte;
+    let seconds = step_seconds(clock.seconds);
+    let clock = Clock {
+        seconds: seconds.byte,
+        ..clock
+    };
     if !seconds.carry {
-        return c;
+        return clock;
     }
-    let minutes = step(0x00, 0x59, c.minutes);
-    c.minutes = minutes.byte;
+    let minutes = step(0x00, 0x59, clock.minutes);
+    let clock = Clock {
+        minutes: minutes.byte,
+        ..clock
+    };
     if !minutes.carry {
-        return c;
+        return clock;
     }
-    let hours = step_hours(c.hours);
-    c.hours = hours.byte;
-    if !hours.carry {
-        return c;
-    }
-    next_day(c)
+    let hours = step_hours(clock.hours);
+    let clock = Clock {
+        hours: hours.byte,
+        ..clock
+    };
+    if hours.carry { next_day(clock) } else { clock }
 }
 
 // One day on, by the month and the year that it ends in.
@@ -53,23 +58,33 @@ pub fn next(clock: Clock) -> Clock
 fn next_day(clock: Clock) -> Clock
     ensures { result ≡ next_day clock }
 {
-    let mut c = clock;
-    let date = step(0x01, days_in(c.month % 32, c.year), c.date);
-    c.date = date.byte;
+    let date = step(0x01, days_in(clock.month % 32, clock.year), clock.date);
+    let clock = Clock {
+        date: date.byte,
+        ..clock
+    };
     if !date.carry {
-        return c;
+        return clock;
     }
-    let month = step_month(c.month);
-    c.month = month.byte;
+    let month = step_month(clock.month);
+    let clock = Clock {
+        month: month.byte,
+        ..clock
+    };
     if !month.carry {
-        return c;
+        return clock;
     }
-    let year = step(0x00, 0x99, c.year);
-    c.year = year.byte;
-    if year.carry {
-        c.month = flip(c.month);
+    let year = step(0x00, 0x99, clock.year);
+    let month = if year.carry {
+        flip(month.byte)
+    } else {
+        month.byte
+    };
+    Clock {
+        month,
+        year: year.byte,
+        ..clock
     }
-    c
 }
 
 // The seconds, 60 a minute: the field that every second steps.
@@ -84,7 +99,7 @@ pub fn step_seconds(byte: u8) -> Stepped
 fn step_hours(byte: u8) -> Stepped
     ensures { result ≡ step_hours byte }
 {
-    if bits::bit(byte as u64, 6) {
+    if bits::bit(u64::from(byte), 6) {
         step_twelve(byte)
     } else {
         step(0x00, 0x23, byte)
@@ -121,14 +136,10 @@ fn step_month(byte: u8) -> Stepped
     ensures { result ≡ step_month byte }
 {
     let month = step(0x01, 0x12, byte % 32);
-    if byte < 128 {
-        month
-    } else {
-        let next = month.byte + 128;
-        Stepped {
-            byte: next,
-            carry: month.carry,
-        }
+    let cent = byte / 128 * 128;
+    Stepped {
+        byte: month.byte + cent,
+        ..month
     }
 }
 
