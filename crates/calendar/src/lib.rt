@@ -112,14 +112,21 @@ fn step_twelve(byte: u8) -> Stepped
     ensures { result ≡ step_along twelve_hours byte }
 {
     if byte == 0x71 || !valid_twelve(byte) {
-        return returned(0x52);
+        return Stepped {
+            byte: 0x52,
+            carry: true,
+        };
     }
-    match byte {
-        0x52 => gone_on(0x41),
-        0x51 => gone_on(0x72),
-        0x72 => gone_on(0x61),
-        0x49 | 0x69 => gone_on(byte + 7),
-        _ => gone_on(byte + 1),
+    let next = match byte {
+        0x52 => 0x41,
+        0x51 => 0x72,
+        0x72 => 0x61,
+        0x49 | 0x69 => byte + 7,
+        _ => byte + 1,
+    };
+    Stepped {
+        byte: next,
+        carry: false,
     }
 }
 
@@ -176,33 +183,15 @@ fn is_leap(year: u8) -> bool
 fn step(lowest: u8, last: u8, byte: u8) -> Stepped
     ensures { result ≡ step_field lowest last byte }
 {
-    if byte == last || !valid(lowest, last, byte) {
-        returned(lowest)
+    let carry = byte == last || !valid(lowest, last, byte);
+    let next = if carry {
+        lowest
     } else if byte % 16 == 9 {
-        gone_on(byte + 7)
+        byte + 7
     } else {
-        gone_on(byte + 1)
-    }
-}
-
-// A field that returns to its lowest carries.
-fn returned(lowest: u8) -> Stepped
-    ensures { result ≡ record { byte = lowest; carry = true } }
-{
-    Stepped {
-        byte: lowest,
-        carry: true,
-    }
-}
-
-// One that goes on does not.
-fn gone_on(next: u8) -> Stepped
-    ensures { result ≡ record { byte = next; carry = false } }
-{
-    Stepped {
-        byte: next,
-        carry: false,
-    }
+        byte + 1
+    };
+    Stepped { byte: next, carry }
 }
 
 // Two digits up to 9, and neither below the lowest nor past the last.
