@@ -42,6 +42,7 @@ pub trait Register {
     ghost same: { (a b : Self) → number a ≡ number b → a ≡ b };
 }
 
+// An impl says only what differs between the two: the type, its width and its top bit.
 impl Register for u8 {
     ghost width = { 8 };
 

@@ -6,7 +6,7 @@ ghost use Rattle.std.specs.Prelude.{◌≡◌};
 ghost use Rattle.std.proofs.lemmas.List.Edits.{sets};
 ghost use Rattle.hexadecimal.specs.Hex.{hex_of, digit_of, pair_at};
 
-// What two characters say.
+// What two characters say. No Option: document 01, "Which shape goes where", names the enum Byte or Bad.
 #[derive(Drop)]
 pub enum Pair {
     Byte(u8),
