@@ -83,7 +83,7 @@ fn crc16_four(crc: u16, a: u8, b: u8, c: u8, d: u8) -> u16
         ^ halves::byte_tabled(6, low ^ a)
 }
 
-// The first of the two bytes that are sent: the low one, inverted. Two functions, as docs/PROMISES.md names both and a slot sends one.
+// The first of the two bytes that are sent: the low one, inverted. Two functions: docs/PROMISES.md names both.
 #[tactic(auto, unfolding(crate::specs::Crc::sent_low))]
 pub fn sent_low(crc: u16) -> u8
     ensures { result ≡ sent_low crc }
