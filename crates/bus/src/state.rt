@@ -28,10 +28,8 @@ pub fn to(bus: Bus, stage: Stage) -> Bus
         stage,
         byte: 0,
         at: 0,
-        crc: bus.crc,
-        address: bus.address,
-        status: bus.status,
         field: 0,
+        ..bus
     }
 }
 
@@ -39,31 +37,16 @@ pub fn to(bus: Bus, stage: Stage) -> Bus
 pub fn pass(bus: Bus, byte: u8, at: u8) -> Bus
     ensures { result ≡ passing bus byte at }
 {
-    let stage = bus.stage;
-    Bus {
-        stage,
-        byte,
-        at,
-        crc: bus.crc,
-        address: bus.address,
-        status: bus.status,
-        field: bus.field,
-    }
+    Bus { byte, at, ..bus }
 }
 
 // A byte counts in the CRC-16.
 pub fn add(bus: Bus, byte: u8) -> Bus
     ensures { result ≡ adding bus byte }
 {
-    let stage = bus.stage;
     Bus {
-        stage,
-        byte: bus.byte,
-        at: bus.at,
         crc: crc::crc16_byte(bus.crc, byte),
-        address: bus.address,
-        status: bus.status,
-        field: bus.field,
+        ..bus
     }
 }
 
@@ -78,48 +61,21 @@ pub fn count(bus: Bus, byte: u8, stage: Stage) -> Bus
 pub fn fresh_crc(bus: Bus) -> Bus
     ensures { result ≡ fresh_crc bus }
 {
-    let stage = bus.stage;
-    Bus {
-        stage,
-        byte: bus.byte,
-        at: bus.at,
-        crc: 0,
-        address: bus.address,
-        status: bus.status,
-        field: bus.field,
-    }
+    Bus { crc: 0, ..bus }
 }
 
 // Another address.
 pub fn at_address(bus: Bus, address: u16) -> Bus
     ensures { result ≡ addressing bus address }
 {
-    let stage = bus.stage;
-    Bus {
-        stage,
-        byte: bus.byte,
-        at: bus.at,
-        crc: bus.crc,
-        address,
-        status: bus.status,
-        field: bus.field,
-    }
+    Bus { address, ..bus }
 }
 
 // Copy's E/S as sent.
 pub fn note(bus: Bus, status: u8) -> Bus
     ensures { result ≡ noting bus status }
 {
-    let stage = bus.stage;
-    Bus {
-        stage,
-        byte: bus.byte,
-        at: bus.at,
-        crc: bus.crc,
-        address: bus.address,
-        status,
-        field: bus.field,
-    }
+    Bus { status, ..bus }
 }
 
 // A slot in which the tag only listens: its own bit is 1.
@@ -139,14 +95,7 @@ pub fn listen(held: Held, bus: Bus, deed: Deed) -> Moved
 pub fn status_byte(held: Held) -> u8
     ensures { result ≡ status_byte held }
 {
-    flag(held.aa, 128) + flag(held.pf, 32) + held.ending % 32
-}
-
-// A flag as a bit of a byte.
-fn flag(set: bool, bit: u8) -> u8
-    ensures { result ≡ bit * digit set }
-{
-    if set { bit } else { 0 }
+    128 * u8::from(held.aa) + 32 * u8::from(held.pf) + held.ending % 32
 }
 
 // The scratchpad's byte at a place; past its end there is none, and 0 stands for it.
@@ -154,6 +103,5 @@ fn flag(set: bool, bit: u8) -> u8
 pub fn pad_byte(held: Held, place: u8) -> u8
     ensures { result ≡ pad_byte held place }
 {
-    let pad = held.pad;
-    if place < 32 { pad[place as usize] } else { 0 }
+    held.pad.get(usize::from(place)).copied().unwrap_or(0)
 }
