@@ -59,34 +59,29 @@ pub struct Chosen {
 pub fn waiting() -> Select
     ensures { result ≡ new_select }
 {
-    keep(modes::made(false, false), Choosing::Silent)
+    keep(Mode::made(false, false), Choosing::Silent)
 }
 
 // After a long reset a ROM command is heard; only the Resume mark is kept.
 pub fn reset(select: Select) -> Select
     ensures { result ≡ reset_select select }
 {
-    let mode = select.mode;
-    keep(
-        modes::made(modes::mark(mode), false),
-        Choosing::Command(0, 0),
-    )
+    let mode = Mode::made(select.mode.mark(), false);
+    keep(mode, Choosing::Command(0, 0))
 }
 
 // After a short reset at overdrive too, and the speed is kept beside the mark.
 pub fn restart(select: Select) -> Select
     ensures { result ≡ restarted select }
 {
-    let mode = select.mode;
-    keep(mode, Choosing::Command(0, 0))
+    keep(select.mode, Choosing::Command(0, 0))
 }
 
 // Whether the tag is at overdrive.
 pub fn overdrive(select: Select) -> bool
     ensures { result ≡ speed_in select.mode }
 {
-    let mode = select.mode;
-    modes::speed(mode)
+    select.mode.speed()
 }
 
 // Whether `select` keeps to its ranges.
@@ -94,16 +89,14 @@ pub fn overdrive(select: Select) -> bool
 pub fn in_range(select: Select) -> bool
     ensures { result ≡ select_in_range select }
 {
-    let choosing = select.choosing;
-    match choosing {
-        Choosing::Silent => true,
+    match select.choosing {
+        Choosing::Silent | Choosing::Selected => true,
         Choosing::Command(_, count) => count < 8,
-        Choosing::Reading(at) => at < 64,
-        Choosing::Matching(_, at) => at < 64,
-        Choosing::Giving(at) => at < 64,
-        Choosing::Complementing(at) => at < 64,
-        Choosing::Awaiting(at) => at < 64,
-        Choosing::Selected => true,
+        Choosing::Reading(at)
+        | Choosing::Matching(_, at)
+        | Choosing::Giving(at)
+        | Choosing::Complementing(at)
+        | Choosing::Awaiting(at) => at < 64,
     }
 }
 
@@ -112,11 +105,7 @@ pub fn in_range(select: Select) -> bool
 pub fn selected(select: Select) -> bool
     ensures { result ≡ is_selected select }
 {
-    let choosing = select.choosing;
-    let Choosing::Selected = choosing else {
-        return false;
-    };
-    true
+    matches!(select.choosing, Choosing::Selected)
 }
 
 // Whether a slot with the master's `bit` ends the byte of a Conditional Search: the one slot in which `alarm` counts.
@@ -124,14 +113,9 @@ pub fn selected(select: Select) -> bool
 pub fn asks_alarm(select: Select, bit: bool) -> bool
     ensures { result ≡ asks_alarm select bit }
 {
-    let choosing = select.choosing;
-    let Choosing::Command(heard, count) = choosing else {
-        return false;
-    };
-    if count < 7 {
-        false
-    } else {
-        bits::shift_in8(heard, bit) == 0xEC
+    match select.choosing {
+        Choosing::Command(heard, count) => count >= 7 && bits::shift_in8(heard, bit) == 0xEC,
+        _ => false,
     }
 }
 
@@ -142,9 +126,8 @@ pub fn slot(select: Select, number: u64, bit: bool, alarm: bool) -> Chosen
     ensures { result ≡ slot_of select number bit alarm }
 {
     let mode = select.mode;
-    let choosing = select.choosing;
-    match choosing {
-        Choosing::Silent => send(true, bit, keep(mode, Choosing::Silent)),
+    match select.choosing {
+        Choosing::Silent | Choosing::Selected => send(true, bit, select),
         Choosing::Command(heard, count) => {
             let next = command_bit(heard, count, mode, bit, alarm);
             send(true, bit, next)
@@ -166,7 +149,6 @@ pub fn slot(select: Select, number: u64, bit: bool, alarm: bool) -> Chosen
             let next = Choosing::Giving(following(at));
             send(true, bit, hear_bit(number, at, bit, next, false, mode))
         }
-        Choosing::Selected => send(true, bit, keep(mode, Choosing::Selected)),
     }
 }
 
@@ -176,7 +158,7 @@ fn send(own: bool, bit: bool, select: Select) -> Chosen
 {
     Chosen {
         select,
-        line: if own { bit } else { false },
+        line: own && bit,
     }
 }
 
@@ -205,9 +187,8 @@ fn command_bit(heard: u8, count: u8, mode: Mode, bit: bool, alarm: bool) -> Sele
 fn rom_command(byte: u8, mode: Mode, alarm: bool) -> Select
     ensures { result ≡ rom_command byte mode alarm }
 {
-    let mark = modes::mark(mode);
-    let cleared = modes::made(false, modes::speed(mode));
-    let fast = modes::made(false, true);
+    let cleared = Mode::made(false, mode.speed());
+    let fast = Mode::made(false, true);
     match byte {
         // Read
         0x33 => keep(cleared, Choosing::Reading(0)),
@@ -218,25 +199,14 @@ fn rom_command(byte: u8, mode: Mode, alarm: bool) -> Select
         // Search
         0xF0 => keep(cleared, Choosing::Giving(0)),
         // Conditional Search, which only a tag with an alarm joins
-        0xEC => {
-            if alarm {
-                keep(cleared, Choosing::Giving(0))
-            } else {
-                keep(cleared, Choosing::Silent)
-            }
-        }
+        0xEC if alarm => keep(cleared, Choosing::Giving(0)),
+        0xEC => keep(cleared, Choosing::Silent),
         // Skip
         0xCC => keep(cleared, Choosing::Selected),
         // Overdrive Skip
         0x3C => keep(fast, Choosing::Selected),
         // Resume
-        0xA5 => {
-            if mark {
-                keep(mode, Choosing::Selected)
-            } else {
-                keep(mode, Choosing::Silent)
-            }
-        }
+        0xA5 if mode.mark() => keep(mode, Choosing::Selected),
         _ => keep(mode, Choosing::Silent),
     }
 }
@@ -267,13 +237,11 @@ fn hear_bit(number: u64, at: u8, bit: bool, next: Choosing, fast: bool, mode: Mo
     ensures { result ≡ heard_bit number at bit next fast mode }
 {
     let own = bits::bit(number, at);
-    if own == bit {
-        if at < 63 {
-            keep(mode, next)
-        } else {
-            keep(modes::whole(fast, mode), Choosing::Selected)
-        }
-    } else {
+    if own != bit {
         keep(mode, Choosing::Silent)
+    } else if at < 63 {
+        keep(mode, next)
+    } else {
+        keep(mode.whole(fast), Choosing::Selected)
     }
 }
