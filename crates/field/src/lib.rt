@@ -14,16 +14,9 @@ pub fn ask(g: Guarded, bus: Bus, bit: bool) -> Question
     ensures { result ≡ field_asks g bus bit }
 {
     if bus.at < 63 {
-        Question::Nothing
-    } else {
-        let field = bits::shift_in64(bus.field, bit);
-        question(g, bus, field)
+        return Question::Nothing;
     }
-}
-
-fn question(g: Guarded, bus: Bus, field: u64) -> Question
-    ensures { result ≡ field_question g bus field }
-{
+    let field = bits::shift_in64(bus.field, bit);
     match g {
         Guarded::Reading => Question::MayRead(field),
         Guarded::Copying => Question::MayCopy(field, bus.address),
@@ -36,29 +29,13 @@ fn question(g: Guarded, bus: Bus, field: u64) -> Question
 pub fn gather(g: Guarded, held: Held, bus: Bus, bit: bool, may: bool) -> Moved
     ensures { result ≡ gathered_bit g held bus bit may }
 {
-    let at = bus.at;
-    if at < 63 {
+    if bus.at < 63 {
+        // The CRC-16 counts none of the field's bits.
         let field = bits::shift_in64(bus.field, bit);
-        let bus = gather_on(bus, field, at + 1);
-        state::listen(held, bus, Deed::Nothing)
+        let at = bus.at + 1;
+        state::listen(held, Bus { field, at, ..bus }, Deed::Nothing)
     } else {
         judge(g, held, bus, may)
-    }
-}
-
-// The field so far, with this many bits past. The CRC-16 counts none of them.
-fn gather_on(bus: Bus, field: u64, at: u8) -> Bus
-    ensures { result ≡ gathering bus field at }
-{
-    let stage = bus.stage;
-    Bus {
-        stage,
-        byte: bus.byte,
-        at,
-        crc: bus.crc,
-        address: bus.address,
-        status: bus.status,
-        field,
     }
 }
 
@@ -72,24 +49,15 @@ fn judge(g: Guarded, held: Held, bus: Bus, may: bool) -> Moved
             let bus = state::to(bus, reading(bus.address, may));
             state::listen(held, bus, Deed::Nothing)
         }
-        Guarded::Copying => copy(held, bus, may),
+        Guarded::Copying if copied(held, bus, may) => {
+            let held = Held { aa: true, ..held };
+            state::listen(held, state::to(bus, Stage::Copied), Deed::Store)
+        }
+        Guarded::Copying => state::listen(held, state::to(bus, Stage::Over), Deed::Nothing),
         Guarded::Controlling(control) => {
             let bus = state::to(bus, controlling(control, may));
             state::listen(held, bus, Deed::Nothing)
         }
-    }
-}
-
-#[tactic(auto, unfolding(crate::specs::Field::judged))]
-fn copy(held: Held, bus: Bus, may: bool) -> Moved
-    ensures { result ≡ judged Guarded.Copying held bus may }
-{
-    if copied(held, bus, may) {
-        let bus = state::to(bus, Stage::Copied);
-        state::listen(set_aa(held), bus, Deed::Store)
-    } else {
-        let bus = state::to(bus, Stage::Over);
-        state::listen(held, bus, Deed::Nothing)
     }
 }
 
@@ -98,12 +66,8 @@ fn copy(held: Held, bus: Bus, may: bool) -> Moved
 fn reading(address: u16, may: bool) -> Stage
     ensures { result ≡ after_reading address may }
 {
-    if address < 0x3000 {
-        if may {
-            Stage::Sends(Sending::Memory)
-        } else {
-            Stage::Over
-        }
+    if address < 0x3000 && may {
+        Stage::Sends(Sending::Memory)
     } else {
         Stage::Over
     }
@@ -125,11 +89,7 @@ fn controlling(control: Control, may: bool) -> Stage
 fn copied(held: Held, bus: Bus, may: bool) -> bool
     ensures { result ≡ copies held bus may }
 {
-    if same(held, bus) {
-        if filled(held) { may } else { false }
-    } else {
-        false
-    }
+    same(held, bus) && filled(held) && may
 }
 
 // TA1, TA2 and E/S as sent are those held.
@@ -146,17 +106,4 @@ fn filled(held: Held) -> bool
     ensures { result ≡ to_the_end held }
 {
     held.ending == 0x1F && !held.pf
-}
-
-fn set_aa(held: Held) -> Held
-    ensures { result ≡ with_aa held }
-{
-    let pad = held.pad;
-    Held {
-        pad,
-        ta: held.ta,
-        ending: held.ending,
-        pf: held.pf,
-        aa: true,
-    }
 }
