@@ -7,8 +7,8 @@ ghost use Rattle.memory.specs.Memory.{slot_of as memory_slot};
 ghost use Rattle.select.specs.Select.{slot_of as select_slot};
 ghost use Rattle.exchange.specs.Exchange.{new_exchange, begun, after_reset, after_short, asks, slot_of, commanded, choosing, exchange_in_range};
 
-use bus::{Bus, Deed, Hearing, Held, Question, Stage};
-use select::Select;
+use bus::{Bus, Deed, Hearing, Held, Moved, Question, Stage};
+use select::{Chosen, Select};
 
 #[derive(Clone, Copy)]
 pub struct Exchange {
@@ -31,14 +31,11 @@ pub struct Slotted {
 pub fn new(number: u64) -> Exchange
     ensures { result ≡ new_exchange number }
 {
-    let select = select::waiting();
-    let held = bus::blank();
-    let bus = bus::state::clear(Stage::Over);
     Exchange {
         number,
-        select,
-        held,
-        bus,
+        select: select::waiting(),
+        held: bus::blank(),
+        bus: bus::state::clear(Stage::Over),
     }
 }
 
@@ -46,8 +43,7 @@ pub fn new(number: u64) -> Exchange
 pub fn reset(x: Exchange) -> Exchange
     ensures { result ≡ after_reset x }
 {
-    let before = x.select;
-    begin(x, select::reset(before))
+    begin(x, select::reset(x.select))
 }
 
 // A short reset breaks off at overdrive too, and the speed stays; at standard speed it does nothing.
@@ -55,10 +51,8 @@ pub fn reset(x: Exchange) -> Exchange
 pub fn short_reset(x: Exchange) -> Exchange
     ensures { result ≡ after_short x }
 {
-    let before = x.select;
-    let fast = select::overdrive(before);
-    if fast {
-        begin(x, select::restart(before))
+    if select::overdrive(x.select) {
+        begin(x, select::restart(x.select))
     } else {
         x
     }
@@ -68,14 +62,8 @@ pub fn short_reset(x: Exchange) -> Exchange
 fn begin(x: Exchange, select: Select) -> Exchange
     ensures { result ≡ begun x select }
 {
-    let held = x.held;
     let bus = bus::state::clear(Stage::Hears(Hearing::Command));
-    Exchange {
-        number: x.number,
-        select,
-        held,
-        bus,
-    }
+    Exchange { select, bus, ..x }
 }
 
 // What must be known of the image in a slot of the master's `bit`.
@@ -83,12 +71,9 @@ fn begin(x: Exchange, select: Select) -> Exchange
 pub fn ask(x: Exchange, bit: bool) -> Question
     ensures { result ≡ asks x bit }
 {
-    let select = x.select;
-    if select::selected(select) {
-        let bus = x.bus;
-        return memory::ask(bus, bit);
-    }
-    if select::asks_alarm(select, bit) {
+    if select::selected(x.select) {
+        memory::ask(x.bus, bit)
+    } else if select::asks_alarm(x.select, bit) {
         Question::Alarm
     } else {
         Question::Nothing
@@ -100,8 +85,7 @@ pub fn ask(x: Exchange, bit: bool) -> Question
 pub fn slot(x: Exchange, bit: bool, answer: u8) -> Slotted
     ensures { result ≡ slot_of x bit answer }
 {
-    let select = x.select;
-    if select::selected(select) {
+    if select::selected(x.select) {
         command_slot(x, bit, answer)
     } else {
         choosing_slot(x, bit, answer)
@@ -112,22 +96,15 @@ pub fn slot(x: Exchange, bit: bool, answer: u8) -> Slotted
 fn command_slot(x: Exchange, bit: bool, answer: u8) -> Slotted
     ensures { result ≡ commanded x (memory_slot x.held x.bus bit answer) }
 {
-    let select = x.select;
-    let before = x.held;
-    let stood = x.bus;
-    let moved = memory::slot(before, stood, bit, answer);
-    let held = moved.held;
-    let bus = moved.bus;
-    let deed = moved.deed;
-    let exchange = Exchange {
-        number: x.number,
-        select,
+    let Moved {
         held,
         bus,
-    };
+        line,
+        deed,
+    } = memory::slot(x.held, x.bus, bit, answer);
     Slotted {
-        exchange,
-        line: moved.line,
+        exchange: Exchange { held, bus, ..x },
+        line,
         deed,
     }
 }
@@ -136,20 +113,10 @@ fn command_slot(x: Exchange, bit: bool, answer: u8) -> Slotted
 fn choosing_slot(x: Exchange, bit: bool, answer: u8) -> Slotted
     ensures { result ≡ choosing x (select_slot x.select x.number bit (eqb answer 1)) }
 {
-    let before = x.select;
-    let chosen = select::slot(before, x.number, bit, answer == 1);
-    let select = chosen.select;
-    let held = x.held;
-    let bus = x.bus;
-    let exchange = Exchange {
-        number: x.number,
-        select,
-        held,
-        bus,
-    };
+    let Chosen { select, line } = select::slot(x.select, x.number, bit, answer == 1);
     Slotted {
-        exchange,
-        line: chosen.line,
+        exchange: Exchange { select, ..x },
+        line,
         deed: Deed::Nothing,
     }
 }
@@ -158,8 +125,5 @@ fn choosing_slot(x: Exchange, bit: bool, answer: u8) -> Slotted
 pub fn in_range(x: Exchange) -> bool
     ensures { result ≡ exchange_in_range x }
 {
-    let select = x.select;
-    let held = x.held;
-    let bus = x.bus;
-    select::in_range(select) && memory::in_range(held, bus)
+    select::in_range(x.select) && memory::in_range(x.held, x.bus)
 }
