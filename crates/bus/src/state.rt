@@ -1,6 +1,5 @@
 // The bus state and the held registers with one thing changed, each by the definition of its name in specs/Bus.antt.
-ghost use Rattle.std.specs.Prelude.{◌≡◌, ◌*◌};
-ghost use Rattle.bits.specs.Bits.{digit};
+ghost use Rattle.std.specs.Prelude.{◌≡◌};
 ghost use Rattle.bus.specs.Bus.{clear_bus, go_to, passing, adding, counting, addressing, noting, fresh_crc, listens, status_byte, pad_byte};
 
 use crate::{Bus, Deed, Held, Moved, Stage};

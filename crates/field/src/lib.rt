@@ -2,9 +2,7 @@
 #![tactic(auto)]
 
 ghost use Rattle.std.specs.Prelude.{◌≡◌};
-ghost use Rattle.bus.specs.declared.Guarded.{Guarded};
-ghost use Rattle.bus.specs.Bus.{gathering};
-ghost use Rattle.field.specs.Field.{gathered_bit, judged, after_reading, after_controlling, copies, as_held, to_the_end, with_aa, field_asks, field_question};
+ghost use Rattle.field.specs.Field.{gathered_bit, judged, after_reading, after_controlling, copies, as_held, to_the_end, field_asks};
 
 use bus::{Bus, Control, Deed, Guarded, Hearing, Held, Moved, Question, Sending, Stage, state};
 

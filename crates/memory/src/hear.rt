@@ -1,6 +1,7 @@
 // What the tag hears, byte by byte: the command, an address, data for the scratchpad, Copy's E/S, a control command's last byte.
 ghost use Rattle.std.specs.Prelude.{◌≡◌};
-ghost use Rattle.bus.specs.declared.Hearing.{Hearing};
+ghost use Rattle.bus.specs.declared.Deed.{Deed};
+ghost use Rattle.bus.specs.Bus.{listens};
 ghost use Rattle.memory.specs.Hear.{heard_bit, heard_whole, command_stage, address_heard, loaded, stored, after_data, under_way, confirmed, deed_of};
 
 use bus::{
@@ -12,15 +13,19 @@ use bus::{
 pub(crate) fn hear(h: Hearing, held: Held, bus: Bus, bit: bool) -> Moved
     ensures { result ≡ heard_bit h held bus bit }
 {
-    let at = bus.at;
     let byte = bits::shift_in8(bus.byte, bit);
-    if at < 7 {
-        let held = begin(h, held);
-        let bus = state::pass(bus, byte, at + 1);
-        state::listen(held, bus, Deed::Nothing)
+    if bus.at < 7 {
+        go_on(begin(h, held), state::pass(bus, byte, bus.at + 1))
     } else {
         whole(h, held, bus, byte)
     }
+}
+
+// A slot in which the tag only listens, and nothing is to be done.
+fn go_on(held: Held, bus: Bus) -> Moved
+    ensures { result ≡ listens held bus Deed.Nothing }
+{
+    state::listen(held, bus, Deed::Nothing)
 }
 
 // A data byte that has begun is a broken one until it is whole: PF is 1 meanwhile.
@@ -28,21 +33,8 @@ fn begin(h: Hearing, held: Held) -> Held
     ensures { result ≡ under_way h held }
 {
     match h {
-        Hearing::Data(_) => {
-            let pad = held.pad;
-            Held {
-                pad,
-                ta: held.ta,
-                ending: held.ending,
-                pf: true,
-                aa: held.aa,
-            }
-        }
-        Hearing::Command => held,
-        Hearing::Low(_) => held,
-        Hearing::High(_) => held,
-        Hearing::Status => held,
-        Hearing::Confirm(_) => held,
+        Hearing::Data(_) => Held { pf: true, ..held },
+        _ => held,
     }
 }
 
@@ -52,56 +44,29 @@ fn whole(h: Hearing, held: Held, bus: Bus, byte: u8) -> Moved
     ensures { result ≡ heard_whole h held bus byte }
 {
     match h {
-        Hearing::Command => command(held, bus, byte),
-        Hearing::Low(a) => low(a, held, bus, byte),
-        Hearing::High(a) => high(a, held, bus, byte),
-        Hearing::Data(place) => data(place, held, bus, byte),
-        Hearing::Status => status(held, bus, byte),
+        // The CRC-16 begins with the command.
+        Hearing::Command => {
+            let bus = state::fresh_crc(bus);
+            go_on(held, state::count(bus, byte, command_stage(byte)))
+        }
+        Hearing::Low(a) => {
+            let bus = state::at_address(state::add(bus, byte), u16::from(byte));
+            go_on(held, state::to(bus, Stage::Hears(Hearing::High(a))))
+        }
+        Hearing::High(a) => {
+            let address = bus.address % 256 + 256 * u16::from(byte);
+            addressed(a, held, state::at_address(state::add(bus, byte), address))
+        }
+        Hearing::Data(place) => {
+            let held = store(held, place, byte);
+            go_on(held, state::count(bus, byte, after_data(place)))
+        }
+        Hearing::Status => {
+            let bus = state::note(bus, byte);
+            go_on(held, state::to(bus, Stage::Gathers(Guarded::Copying)))
+        }
         Hearing::Confirm(control) => confirm(control, held, bus, byte),
     }
-}
-
-// The CRC-16 begins with the command.
-#[tactic(auto, unfolding(crate::specs::Hear::heard_whole))]
-fn command(held: Held, bus: Bus, byte: u8) -> Moved
-    ensures { result ≡ heard_whole Hearing.Command held bus byte }
-{
-    let bus = state::count(state::fresh_crc(bus), byte, command_stage(byte));
-    state::listen(held, bus, Deed::Nothing)
-}
-
-#[tactic(auto, unfolding(crate::specs::Hear::heard_whole))]
-fn low(a: Addressed, held: Held, bus: Bus, byte: u8) -> Moved
-    ensures { result ≡ heard_whole (Hearing.Low a) held bus byte }
-{
-    let bus = state::at_address(state::add(bus, byte), byte as u16);
-    let bus = state::to(bus, Stage::Hears(Hearing::High(a)));
-    state::listen(held, bus, Deed::Nothing)
-}
-
-#[tactic(auto, unfolding(crate::specs::Hear::heard_whole))]
-fn high(a: Addressed, held: Held, bus: Bus, byte: u8) -> Moved
-    ensures { result ≡ heard_whole (Hearing.High a) held bus byte }
-{
-    let address = bus.address % 256 + 256 * (byte as u16);
-    addressed(a, held, state::at_address(state::add(bus, byte), address))
-}
-
-#[tactic(auto, unfolding(crate::specs::Hear::heard_whole))]
-fn data(place: u8, held: Held, bus: Bus, byte: u8) -> Moved
-    ensures { result ≡ heard_whole (Hearing.Data place) held bus byte }
-{
-    let held = store(held, place, byte);
-    let bus = state::count(bus, byte, after_data(place));
-    state::listen(held, bus, Deed::Nothing)
-}
-
-#[tactic(auto, unfolding(crate::specs::Hear::heard_whole))]
-fn status(held: Held, bus: Bus, byte: u8) -> Moved
-    ensures { result ≡ heard_whole Hearing.Status held bus byte }
-{
-    let bus = state::to(state::note(bus, byte), Stage::Gathers(Guarded::Copying));
-    state::listen(held, bus, Deed::Nothing)
 }
 
 // Which stage a command byte leads to.
@@ -127,22 +92,14 @@ fn command_stage(byte: u8) -> Stage
 fn addressed(a: Addressed, held: Held, bus: Bus) -> Moved
     ensures { result ≡ address_heard a held bus }
 {
-    let address = bus.address;
     match a {
         Addressed::Write => {
-            let offset = (address % 32) as u8;
-            let held = load(held, address);
-            let bus = state::to(bus, Stage::Hears(Hearing::Data(offset)));
-            state::listen(held, bus, Deed::Nothing)
+            let offset = (bus.address % 32) as u8;
+            let held = load(held, bus.address);
+            go_on(held, state::to(bus, Stage::Hears(Hearing::Data(offset))))
         }
-        Addressed::Copy => {
-            let bus = state::to(bus, Stage::Hears(Hearing::Status));
-            state::listen(held, bus, Deed::Nothing)
-        }
-        Addressed::Read => {
-            let bus = state::to(bus, Stage::Gathers(Guarded::Reading));
-            state::listen(held, bus, Deed::Nothing)
-        }
+        Addressed::Copy => go_on(held, state::to(bus, Stage::Hears(Hearing::Status))),
+        Addressed::Read => go_on(held, state::to(bus, Stage::Gathers(Guarded::Reading))),
     }
 }
 
@@ -150,13 +107,12 @@ fn addressed(a: Addressed, held: Held, bus: Bus) -> Moved
 fn load(held: Held, address: u16) -> Held
     ensures { result ≡ loaded held address }
 {
-    let pad = held.pad;
     Held {
-        pad,
         ta: address,
         ending: (address % 32) as u8,
         pf: true,
         aa: false,
+        ..held
     }
 }
 
@@ -167,14 +123,13 @@ fn store(held: Held, place: u8, byte: u8) -> Held
 {
     let mut pad = held.pad;
     if place < 32 {
-        pad[place as usize] = byte;
+        pad[usize::from(place)] = byte;
     }
     Held {
         pad,
-        ta: held.ta,
         ending: place,
         pf: false,
-        aa: held.aa,
+        ..held
     }
 }
 
@@ -194,12 +149,12 @@ fn after_data(place: u8) -> Stage
 fn confirm(control: Control, held: Held, bus: Bus, byte: u8) -> Moved
     ensures { result ≡ confirmed control held bus byte }
 {
-    let bus = state::to(bus, Stage::Over);
-    if byte == 0xFF {
-        state::listen(held, bus, deed(control))
+    let deed = if byte == 0xFF {
+        deed(control)
     } else {
-        state::listen(held, bus, Deed::Nothing)
-    }
+        Deed::Nothing
+    };
+    state::listen(held, state::to(bus, Stage::Over), deed)
 }
 
 fn deed(control: Control) -> Deed

@@ -17,13 +17,10 @@ mod send;
 pub fn ask(bus: Bus, bit: bool) -> Question
     ensures { result ≡ asks bus bit }
 {
-    let stage = bus.stage;
-    match stage {
-        Stage::Over => Question::Nothing,
-        Stage::Hears(_) => Question::Nothing,
+    match bus.stage {
         Stage::Gathers(g) => field::ask(g, bus, bit),
         Stage::Sends(s) => send::send_asks(s, bus),
-        Stage::Copied => Question::Nothing,
+        Stage::Over | Stage::Hears(_) | Stage::Copied => Question::Nothing,
     }
 }
 
@@ -40,18 +37,9 @@ pub fn slot(held: Held, bus: Bus, bit: bool, answer: u8) -> Moved
 fn on_line(bit: bool, moved: Moved) -> Moved
     ensures { result ≡ on_line bit moved }
 {
-    if bit {
-        moved
-    } else {
-        let held = moved.held;
-        let bus = moved.bus;
-        let deed = moved.deed;
-        Moved {
-            held,
-            bus,
-            line: false,
-            deed,
-        }
+    Moved {
+        line: bit && moved.line,
+        ..moved
     }
 }
 
@@ -60,8 +48,7 @@ fn on_line(bit: bool, moved: Moved) -> Moved
 fn step(held: Held, bus: Bus, bit: bool, answer: u8) -> Moved
     ensures { result ≡ stage_slot bus.stage held bus bit answer }
 {
-    let stage = bus.stage;
-    match stage {
+    match bus.stage {
         Stage::Over => state::listen(held, bus, Deed::Nothing),
         Stage::Hears(h) => hear::hear(h, held, bus, bit),
         Stage::Gathers(g) => field::gather(g, held, bus, bit, answer == 1),

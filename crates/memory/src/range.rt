@@ -1,7 +1,6 @@
 // The ranges of scratchpad, TA, E/S and bus state, by the definitions of specs/Range.antt: a record outside of them is none that
 // a new tag leads to.
 ghost use Rattle.std.specs.Prelude.{◌≡◌};
-ghost use Rattle.field.specs.Field.{guarded};
 ghost use Rattle.memory.specs.Range.{from_offset, hearing_in_range, guarded_in_range, crc_in_range, sending_in_range, stage_in_range};
 
 use bus::{Bus, Control, Guarded, Hearing, Held, Next, Sending, Stage};
@@ -11,8 +10,7 @@ use bus::{Bus, Control, Guarded, Hearing, Held, Next, Sending, Stage};
 pub(crate) fn stage_in_range(held: Held, bus: Bus) -> bool
     ensures { result ≡ stage_in_range bus.stage held bus }
 {
-    let stage = bus.stage;
-    match stage {
+    match bus.stage {
         Stage::Over => bus.at == 0,
         Stage::Hears(h) => bus.at < 8 && hearing_in_range(h, held),
         Stage::Gathers(g) => bus.at < 64 && guarded_in_range(g),
@@ -35,36 +33,16 @@ fn hearing_in_range(h: Hearing, held: Held) -> bool
 {
     match h {
         Hearing::Data(place) => from_offset(held, place),
-        Hearing::Command => true,
-        Hearing::Low(_) => true,
-        Hearing::High(_) => true,
-        Hearing::Status => true,
-        Hearing::Confirm(_) => true,
+        _ => true,
     }
 }
 
-#[tactic(auto, unfolding(crate::specs::Range::guarded_in_range))]
+// A Forced Conversion takes no password.
+#[tactic(auto, unfolding(crate::specs::Range::guarded_in_range, field::specs::Field::guarded))]
 fn guarded_in_range(g: Guarded) -> bool
     ensures { result ≡ guarded_in_range g }
 {
-    match g {
-        Guarded::Reading => true,
-        Guarded::Copying => true,
-        Guarded::Controlling(control) => takes_password(control),
-    }
-}
-
-// A Forced Conversion takes none.
-#[tactic(auto, unfolding(field::specs::Field::guarded))]
-fn takes_password(control: Control) -> bool
-    ensures { result ≡ guarded control }
-{
-    match control {
-        Control::Clear => true,
-        Control::Start => true,
-        Control::Stop => true,
-        Control::Convert => false,
-    }
+    !matches!(g, Guarded::Controlling(Control::Convert))
 }
 
 #[tactic(auto, unfolding(crate::specs::Range::sending_in_range))]
@@ -72,13 +50,10 @@ fn sending_in_range(s: Sending, held: Held, bus: Bus) -> bool
     ensures { result ≡ sending_in_range s held bus }
 {
     match s {
-        Sending::PadLow => true,
-        Sending::PadHigh => true,
-        Sending::PadStatus => true,
+        Sending::PadLow | Sending::PadHigh | Sending::PadStatus => true,
         Sending::PadData(place) => from_offset(held, place),
         Sending::Memory => bus.address < 0x3000,
-        Sending::CrcLow(next) => crc_in_range(next, bus.address),
-        Sending::CrcHigh(next) => crc_in_range(next, bus.address),
+        Sending::CrcLow(next) | Sending::CrcHigh(next) => crc_in_range(next, bus.address),
     }
 }
 

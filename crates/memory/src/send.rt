@@ -1,5 +1,6 @@
 // What the tag sends, byte by byte: Read Scratchpad, Read Memory, and the CRC-16 behind them.
 ghost use Rattle.std.specs.Prelude.{◌≡◌};
+ghost use Rattle.bus.specs.declared.Deed.{Deed};
 ghost use Rattle.memory.specs.Send.{first_byte, after_pad, after_memory, after_page, after_crc, sent_whole, outgoing, sent_bit, alternating, send_asks};
 
 use bus::{Bus, Deed, Held, Moved, Next, Question, Sending, Stage, state};
@@ -10,19 +11,8 @@ pub(crate) fn send_asks(s: Sending, bus: Bus) -> Question
     ensures { result ≡ send_asks s bus }
 {
     match s {
-        Sending::Memory => {
-            if bus.at == 0 {
-                Question::Byte(bus.address)
-            } else {
-                Question::Nothing
-            }
-        }
-        Sending::PadLow => Question::Nothing,
-        Sending::PadHigh => Question::Nothing,
-        Sending::PadStatus => Question::Nothing,
-        Sending::PadData(_) => Question::Nothing,
-        Sending::CrcLow(_) => Question::Nothing,
-        Sending::CrcHigh(_) => Question::Nothing,
+        Sending::Memory if bus.at == 0 => Question::Byte(bus.address),
+        _ => Question::Nothing,
     }
 }
 
@@ -31,25 +21,25 @@ pub(crate) fn send_asks(s: Sending, bus: Bus) -> Question
 pub(crate) fn send(s: Sending, held: Held, bus: Bus, memory: u8) -> Moved
     ensures { result ≡ sent_bit s held bus memory }
 {
-    let at = bus.at;
     let byte = going(s, held, bus, memory);
-    let line = bits::bit(byte as u64, at);
-    if at < 7 {
-        let bus = state::pass(bus, byte, at + 1);
-        Moved {
-            held,
-            bus,
-            line,
-            deed: Deed::Nothing,
-        }
+    let line = bits::bit(u64::from(byte), bus.at);
+    let bus = if bus.at < 7 {
+        state::pass(bus, byte, bus.at + 1)
     } else {
-        let bus = whole(s, held, bus, byte);
-        Moved {
-            held,
-            bus,
-            line,
-            deed: Deed::Nothing,
-        }
+        whole(s, held, bus, byte)
+    };
+    out(held, bus, line)
+}
+
+// A slot in which the tag sends: its own bit goes out.
+fn out(held: Held, bus: Bus, line: bool) -> Moved
+    ensures { result ≡ record { held = held; bus = bus; line = line; deed = Deed.Nothing } }
+{
+    Moved {
+        held,
+        bus,
+        line,
+        deed: Deed::Nothing,
     }
 }
 
@@ -156,20 +146,8 @@ pub(crate) fn alternate(held: Held, bus: Bus) -> Moved
     ensures { result ≡ alternating held bus }
 {
     if bus.at == 0 {
-        let bus = state::pass(bus, bus.byte, 1);
-        Moved {
-            held,
-            bus,
-            line: false,
-            deed: Deed::Nothing,
-        }
+        out(held, state::pass(bus, bus.byte, 1), false)
     } else {
-        let bus = state::pass(bus, bus.byte, 0);
-        Moved {
-            held,
-            bus,
-            line: true,
-            deed: Deed::Nothing,
-        }
+        out(held, state::pass(bus, bus.byte, 0), true)
     }
 }
