@@ -14,7 +14,7 @@ pub fn ask(g: Guarded, bus: Bus, bit: bool) -> Question
     if bus.at < 63 {
         return Question::Nothing;
     }
-    let field = bits::shift_in64(bus.field, bit);
+    let field = bits::shift_in(bus.field, bit);
     match g {
         Guarded::Reading => Question::MayRead(field),
         Guarded::Copying => Question::MayCopy(field, bus.address),
@@ -29,7 +29,7 @@ pub fn gather(g: Guarded, held: Held, bus: Bus, bit: bool, may: bool) -> Moved
 {
     if bus.at < 63 {
         // The CRC-16 counts none of the field's bits.
-        let field = bits::shift_in64(bus.field, bit);
+        let field = bits::shift_in(bus.field, bit);
         let at = bus.at + 1;
         state::listen(held, Bus { field, at, ..bus }, Deed::Nothing)
     } else {

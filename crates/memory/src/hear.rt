@@ -13,7 +13,7 @@ use bus::{
 pub(crate) fn hear(h: Hearing, held: Held, bus: Bus, bit: bool) -> Moved
     ensures { result ≡ heard_bit h held bus bit }
 {
-    let byte = bits::shift_in8(bus.byte, bit);
+    let byte = bits::shift_in(bus.byte, bit);
     if bus.at < 7 {
         go_on(begin(h, held), state::pass(bus, byte, bus.at + 1))
     } else {

@@ -114,7 +114,7 @@ pub fn asks_alarm(select: Select, bit: bool) -> bool
     ensures { result ≡ asks_alarm select bit }
 {
     match select.choosing {
-        Choosing::Command(heard, count) => count >= 7 && bits::shift_in8(heard, bit) == 0xEC,
+        Choosing::Command(heard, count) => count >= 7 && bits::shift_in(heard, bit) == 0xEC,
         _ => false,
     }
 }
@@ -174,7 +174,7 @@ fn keep(mode: Mode, choosing: Choosing) -> Select
 fn command_bit(heard: u8, count: u8, mode: Mode, bit: bool, alarm: bool) -> Select
     ensures { result ≡ command_bit heard count mode bit alarm }
 {
-    let byte = bits::shift_in8(heard, bit);
+    let byte = bits::shift_in(heard, bit);
     if count < 7 {
         keep(mode, Choosing::Command(byte, count + 1))
     } else {
