@@ -54,7 +54,8 @@ fn whole(h: Hearing, held: Held, bus: Bus, byte: u8) -> Moved
             go_on(held, state::to(bus, Stage::Hears(Hearing::High(a))))
         }
         Hearing::High(a) => {
-            let address = bus.address % 256 + 256 * u16::from(byte);
+            let [ta1, _] = bus.address.to_le_bytes();
+            let address = u16::from_le_bytes([ta1, byte]);
             addressed(a, held, state::at_address(state::add(bus, byte), address))
         }
         Hearing::Data(place) => {

@@ -59,9 +59,10 @@ fn going(s: Sending, held: Held, bus: Bus, memory: u8) -> u8
 fn first(s: Sending, held: Held, bus: Bus, memory: u8) -> u8
     ensures { result ≡ first_byte s held bus memory }
 {
+    let [ta1, ta2] = held.ta.to_le_bytes();
     match s {
-        Sending::PadLow => (held.ta % 256) as u8,
-        Sending::PadHigh => (held.ta / 256) as u8,
+        Sending::PadLow => ta1,
+        Sending::PadHigh => ta2,
         Sending::PadStatus => state::status_byte(held),
         Sending::PadData(place) => state::pad_byte(held, place),
         Sending::Memory => memory,
