@@ -205,7 +205,7 @@ fn rom_command(byte: u8, mode: Mode, alarm: bool) -> Select
         0xCC => keep(cleared, Choosing::Selected),
         // Overdrive Skip
         0x3C => keep(fast, Choosing::Selected),
-        // Resume
+        // Resume, which needs the mark; without it the tag is silent, as after any other byte
         0xA5 if mode.mark() => keep(mode, Choosing::Selected),
         _ => keep(mode, Choosing::Silent),
     }
