@@ -1,6 +1,8 @@
 // The bus state of the memory commands, and scratchpad, TA and E/S, by value: what a slot finds and what it leaves. What must be known
 // of the image is a `Question`, what is to be done to it a `Deed`. A packed record has a stage, and the cases within it, by their places here
 // (crate `packing`): a new one goes last.
+// `Nothing` stays a case of `Question`, `Deed` and `Next`, and none stands in an Option: definitions that stay name it (`promises`
+// `Demand3.Needed.Walk.harmless`, `Ranges.crc_fits`; `memory` `Phases.deed_at`). A stage is a value that a record packs, so no closure.
 #![tactic(auto)]
 
 ghost use Rattle.std.specs.Prelude.{◌≡◌};

@@ -117,7 +117,8 @@ fn load(held: Held, address: u16) -> Held
     }
 }
 
-// A whole data byte, at its place of the scratchpad. A place past the end keeps nothing.
+// A whole data byte, at its place of the scratchpad. A place past the end keeps nothing. By index: behind a `get_mut` no proof knows
+// the elements.
 #[tactic(auto, unfolding(crate::specs::Hear::stored))]
 fn store(held: Held, place: u8, byte: u8) -> Held
     ensures { result ≡ stored held place byte }
@@ -134,6 +135,7 @@ fn store(held: Held, place: u8, byte: u8) -> Held
     }
 }
 
+// What follows a data byte. No twin of `send::after_pad`: the stages are of other kinds, and a closure for the stage is longer than the `if`.
 #[tactic(auto, unfolding(crate::specs::Hear::after_data))]
 fn after_data(place: u8) -> Stage
     ensures { result ≡ after_data place }
@@ -158,6 +160,7 @@ fn confirm(control: Control, held: Held, bus: Bus, byte: u8) -> Moved
     state::listen(held, state::to(bus, Stage::Over), deed)
 }
 
+// No `From`, which would have to stand in `bus`: what a command does is this crate's.
 fn deed(control: Control) -> Deed
     ensures { result ≡ deed_of control }
 {

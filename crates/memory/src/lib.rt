@@ -1,5 +1,7 @@
 // The memory commands of a chosen tag, slot by slot, as a machine by value: what is heard, what is sent, and the ranges of what lies
 // between. It never sees the image. What it must know it asks (`ask`), and what is to be done it returns (a `Deed`).
+// `held` and `bus` stay two parameters, here and in `field`: the definitions take two, `Exchange` and `Moved` have two, and one struct
+// of both would be taken apart at every use. An answer stays a number: `Memory.slot_of`, and demand 3 over it, has one for any question.
 #![tactic(auto)]
 
 ghost use Rattle.std.specs.Prelude.{◌≡◌};

@@ -5,7 +5,7 @@ ghost use Rattle.select.specs.Select.{mark_in, speed_in, mode_of, whole};
 use crate::Mode;
 
 impl Mode {
-    // Resume mark and speed as given.
+    // Resume mark and speed as given. No `From` of a pair: two flags with names say which is which.
     #[tactic(auto, unfolding(crate::specs::Select::mode_of))]
     pub(crate) fn made(mark: bool, speed: bool) -> Mode
         ensures { result ≡ mode_of mark speed }

@@ -1,8 +1,9 @@
 -- The pieces of a memory command as runs of the tag: a byte that is heard, a password field, a byte that goes out. Assumes nothing.
-use Rattle.std.specs.Prelude.{◌≡◌, Bool, true, false, List, [], ◌∷◌, ◌++◌, map, ℕ, zero, suc, ◌*◌, ◌^◌, ◌<◌, eqb, length, replicate}
+use Rattle.std.specs.Prelude.{◌≡◌, Bool, true, false, List, [], ◌∷◌, ◌++◌, ℕ, zero, suc, ◌*◌, ◌^◌, ◌<◌, eqb, replicate}
 use Rattle.std.proofs.Math.Path.{refl, ap}
 use Rattle.std.proofs.Common.{◌∙◌, arith}
 use Rattle.std.proofs.Math.Bool.{and-true}
+use Rattle.std.proofs.lemmas.Simd.{splat_is_map}
 use Rattle.bits.specs.Bits.{bits_of, released}
 use Rattle.bits.specs.Bits.Laws.{length_bits}
 use Rattle.bus.specs.declared.Bus.{Bus}
@@ -31,10 +32,6 @@ use Rattle.exchange.specs.Runs.Laws.{ran, run_commanded, run_quiet}
 abbrev pub lastly : ℕ → Mode → ℕ → Moved → List Bool → Ran
 lastly number mode n moved line =
     record { exchange = commanding number mode moved.held moved.bus; line = line; deeds = replicate n Deed.Nothing ++ (moved.deed ∷ []) }
-
-map_nothing : (line : List Bool) → map (λ bit. Deed.Nothing) line ≡ replicate (length line) Deed.Nothing
-map_nothing [] = refl
-map_nothing (bit ∷ line) = ap (◌∷◌ Deed.Nothing) (map_nothing line)
 
 module _ (answers : Question → ℕ) (number : ℕ) (mode : Mode) (held : Held) (bus : Bus) where
   -- the eight slots of a byte: it is heard whole, in the last one
@@ -77,7 +74,7 @@ module _ (answers : Question → ℕ) (number : ℕ) (mode : Mode) (held : Held)
       run answers (commanding number mode held (go_to bus (Stage.Gathers g))) (bits_of 64 field) ≡
       quietly (commanding number mode said.held said.bus) (bits_of 64 field)
   field_quiet g field fits answer none =
-      field_gathered g field fits ∙ rw (answer, none, map_nothing (bits_of 64 field), length_bits 64 field)
+      field_gathered g field fits ∙ rw (answer, none, ← splat_is_map (bits_of 64 field) _ Deed.Nothing refl, length_bits 64 field)
 
 -- ---- after a command
 

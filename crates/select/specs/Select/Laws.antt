@@ -2,6 +2,7 @@
 use Rattle.std.specs.Prelude.{◌≡◌, refl, Bool, true, false, ℕ, ◌+◌, ◌<◌, ◌≤◌, ltb, eqb}
 use Rattle.std.proofs.Common.{ap, lt-ltb, le-ltb}
 use Rattle.std.specs.Bool.{beq}
+use Rattle.std.specs.Cmp.{bool_eq_equiv}
 use Rattle.bits.specs.Bits.{bit_of, shift_in}
 use Rattle.bits.specs.Choose.{choice}
 use Rattle.select.specs.Select.{mark_in, speed_in, mode_of, keeps, rom_command, whole, command_bit, following, read_bit, heard_bit, listens, slot_at, slot_of, ends_command, asks_alarm}
@@ -74,8 +75,7 @@ unfolding read_bit
 read_last at mode h = rw (le-ltb _ _ h)
 
 pub same_bit : (b : Bool) → beq b b ≡ true
-same_bit true = refl
-same_bit false = refl
+same_bit b = bool_eq_equiv.refl b
 
 pub heard_right_more : (number at : ℕ) (next : Choosing) (fast : Bool) (mode : Mode) → at < 63 →
     heard_bit number at (bit_of number at) next fast mode ≡ keeps mode next
