@@ -1,4 +1,5 @@
 // The bus state and the held registers with one thing changed, each by the definition of its name in specs/Bus.antt.
+// Free functions and no methods of `Bus`: each is public by its name, and `promises` `Determinacy` has a line for each.
 ghost use Rattle.std.specs.Prelude.{◌≡◌};
 ghost use Rattle.bus.specs.Bus.{clear_bus, go_to, passing, adding, counting, addressing, noting, fresh_crc, listens, status_byte, pad_byte};
 

@@ -1,6 +1,7 @@
 // Choosing a tag on the line: the ROM commands, slot by slot, over a registration number whose bit i is bit i on the line.
 // It knows nothing of what a chosen tag does; once the tag is selected the memory commands are another crate's.
 // Every function answers any input, also a place past the last bit.
+// Public functions stay free, and no methods of `Select`: `promises` `Determinacy` has a line for each by its name.
 #![tactic(auto)]
 
 mod modes;
@@ -8,7 +9,8 @@ mod modes;
 ghost use Rattle.std.specs.Prelude.{◌≡◌};
 ghost use Rattle.select.specs.Select.{speed_in, new_select, reset_select, restarted, slot_of, is_selected, asks_alarm, select_in_range, command_bit, rom_command, keeps, read_bit, heard_bit, following, sends};
 
-// Where the choosing of a tag stands. A packed record has a case by its place here (crate `packing`): a new one goes last.
+// Where the choosing of a tag stands. A packed record has a case by its place here (crate `packing`): a new one goes last. The two values
+// of `Command` and of `Matching` count in every one of them, so none is an Option; `Select.slot_at` and its laws name them so.
 #[derive(Clone, Copy)]
 pub enum Choosing {
     // sends and hears nothing until a reset
