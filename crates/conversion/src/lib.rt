@@ -9,11 +9,10 @@ pub mod alarm;
 pub mod clock;
 mod log;
 
-use image::registers::{
-    ALARM_STATUS, DEVICE_SAMPLES, LATEST, MISSION_CONTROL, MISSION_SAMPLES, RO, THF, TLF, TLFS,
-};
+use image::registers::{DEVICE_SAMPLES, LATEST, MISSION_SAMPLES, RO, THF, TLF, TLFS};
 
 // At a conversion time: nothing at all once the mission's conversions have ended.
+#[tactic(auto, unfolding(crate::specs::Conversion::converted, crate::specs::Conversion::measured))]
 pub fn make(image: &mut [u8], reading: u16)
     ensures { image.new ≡ converted image.old reading }
 {
@@ -23,12 +22,12 @@ pub fn make(image: &mut [u8], reading: u16)
     let result = taken(image, reading);
     count_device(image);
     store_latest(image, result);
-    set_thf(image, result);
-    set_tlf(image, result);
+    set_flags(image, result);
     log::record_reading(image, result);
 }
 
 // While it waits for an alarm, the tag converts to 8 bits only.
+#[tactic(auto, unfolding(crate::specs::Conversion::taken))]
 fn taken(image: &[u8], reading: u16) -> u16
     ensures { result ≡ taken image.now reading }
 {
@@ -40,19 +39,16 @@ fn taken(image: &[u8], reading: u16) -> u16
 }
 
 // The log is full and may not roll over, or no more samples can be counted.
+#[tactic(auto, unfolding(crate::specs::Conversion::ended))]
 fn ended(image: &[u8]) -> bool
     ensures { result ≡ ended image.now }
 {
-    if log::samples(image, MISSION_SAMPLES) == 0xFFFFFF {
-        return true;
-    }
-    if image::flag(image, MISSION_CONTROL, RO) {
-        return false;
-    }
-    log::places(image) <= log::next_entry(image)
+    log::samples(image, MISSION_SAMPLES) == 0xFFFFFF
+        || !image::flag(image, RO) && log::places(image) <= log::next_entry(image)
 }
 
 // One more device sample; the count stays at FFFFFFh.
+#[tactic(auto, unfolding(crate::specs::Conversion::device_counted))]
 pub fn count_device(image: &mut [u8])
     ensures { image.new ≡ device_counted image.old }
 {
@@ -63,6 +59,7 @@ pub fn count_device(image: &mut [u8])
 }
 
 // The latest reading, its low bits in the upper part of the first byte.
+#[tactic(auto, unfolding(crate::specs::Conversion::latest_stored))]
 fn store_latest(image: &mut [u8], reading: u16)
     ensures { image.new ≡ latest_stored image.old reading }
 {
@@ -71,30 +68,26 @@ fn store_latest(image: &mut [u8], reading: u16)
 }
 
 // A reading as the log's format keeps it.
+#[tactic(auto, unfolding(crate::specs::Conversion::resolved))]
 fn resolved(image: &[u8], reading: u16) -> u16
     ensures { result ≡ resolved image.now reading }
 {
-    if image::flag(image, MISSION_CONTROL, TLFS) {
+    if image::flag(image, TLFS) {
         reading
     } else {
         reading / 8 * 8
     }
 }
 
-// THF stays 1 until Clear.
-fn set_thf(image: &mut [u8], reading: u16)
-    ensures { image.new ≡ thf_set image.old reading }
+// THF and TLF, which stay 1 until Clear.
+#[tactic(auto, unfolding(crate::specs::Conversion::thf_set, crate::specs::Conversion::tlf_set))]
+fn set_flags(image: &mut [u8], reading: u16)
+    ensures { image.new ≡ tlf_set (thf_set image.old reading) reading }
 {
     if alarm::high(image, reading) {
-        image::put_flag(image, ALARM_STATUS, THF, true);
+        image::put_flag(image, THF, true);
     }
-}
-
-// So does TLF.
-fn set_tlf(image: &mut [u8], reading: u16)
-    ensures { image.new ≡ tlf_set image.old reading }
-{
     if alarm::low(image, reading) {
-        image::put_flag(image, ALARM_STATUS, TLF, true);
+        image::put_flag(image, TLF, true);
     }
 }

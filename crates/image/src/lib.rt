@@ -13,10 +13,7 @@ ghost use Rattle.image.specs.Tables.{register_at};
 pub mod registers;
 mod tables;
 
-use registers::{
-    ALARM_STATUS, BOR, FULL_PASSWORD, GENERAL_STATUS, MIP, PASSWORD_CONTROL, READ_PASSWORD, THF,
-    TLF,
-};
+use registers::{BOR, FULL_PASSWORD, MIP, PASSWORD_CONTROL, READ_PASSWORD, THF, TLF};
 use tables::{ALWAYS_ONE, NAMED, WRITABLE};
 
 // Where the register pages, the calibration and the log lie in the image. User memory lies at 0.
@@ -26,8 +23,15 @@ pub const CALIBRATION_AT: usize = 576;
 
 pub const LOG_AT: usize = 640;
 
+// One bit of a byte: where the byte lies, and which of its eight the bit is, 0 the lowest.
+#[derive(Clone, Copy)]
+pub struct Bit {
+    pub at: usize,
+    pub index: u8,
+}
+
 // Where an address lies, with the offset inside the region.
-#[derive(Drop)]
+#[derive(Clone, Copy)]
 pub enum Region {
     User(u16),
     Registers(u16),
@@ -37,16 +41,15 @@ pub enum Region {
 }
 
 // What Read Memory sends at an address. `code` is the record's configuration code, which no byte of the image holds.
+#[tactic(auto, using(crate::specs::Map::Laws::register_offset_lt), unfolding(crate::specs::Sent::sent_at, crate::specs::Sent::sent_in, crate::specs::Sent::sent_byte, crate::specs::Tables::register_at, crate::specs::Tables::always_one))]
 pub fn sent(image: &[u8], code: u8, address: u16) -> u8
     ensures { result ≡ sent_at image.now code address }
 {
     match region_of(address) {
         Region::User(offset) => peek(image, offset as usize),
+        Region::Registers(0x26) => code,
         Region::Registers(offset) => {
             let o = offset as usize;
-            if o == 0x26 {
-                return code;
-            }
             register(image, o) | ALWAYS_ONE[o]
         }
         Region::Calibration(offset) => peek(image, CALIBRATION_AT + offset as usize),
@@ -56,6 +59,7 @@ pub fn sent(image: &[u8], code: u8, address: u16) -> u8
 }
 
 // The named bits of the register at an offset from 0200h; past the 64 there are none.
+#[tactic(auto, using(crate::specs::Tables::Laws::register_past), unfolding(crate::specs::Tables::register_at, crate::specs::Tables::named))]
 pub fn register(image: &[u8], offset: usize) -> u8
     ensures { result ≡ register_at image.now offset }
 {
@@ -67,6 +71,7 @@ pub fn register(image: &[u8], offset: usize) -> u8
 }
 
 // Copy stores one byte: whole in user memory and calibration, through the writable bits in a register, nowhere else.
+#[tactic(auto, using(crate::specs::Map::Laws::register_offset_lt), unfolding(crate::specs::Stored::stored_at, crate::specs::Stored::stored_in, crate::specs::Stored::stored_byte, crate::specs::Tables::writable))]
 pub fn store(image: &mut [u8], address: u16, b: u8)
     ensures { image.new ≡ stored_at image.old address b }
 {
@@ -78,32 +83,31 @@ pub fn store(image: &mut [u8], address: u16, b: u8)
             poke(image, REGISTERS_AT + o, kept);
         }
         Region::Calibration(offset) => poke(image, CALIBRATION_AT + offset as usize, b),
-        Region::Reserved => {}
-        Region::Log(_) => {}
+        Region::Reserved | Region::Log(_) => {}
     }
 }
 
 // The old byte's bits outside the mask, the new byte's inside.
+#[tactic(auto, unfolding(crate::specs::Stored::blend))]
 fn blended(mask: u8, old: u8, new: u8) -> u8
     ensures { result ≡ blend mask old new }
 {
-    (old & (255 - mask)) | (new & mask)
+    (old & !mask) | (new & mask)
 }
 
 // Copy: the scratchpad's bytes from the address's offset to the page's end, each stored at its address.
+#[tactic(auto, unfolding(crate::specs::Stored::stored_page, crate::specs::Stored::stored_run))]
 pub fn store_page(image: &mut [u8], pad: [u8; 32], address: u16)
     ensures { image.new ≡ stored_page image.old pad address }
 {
     let page = address - address % 32;
-    let mut i = address % 32;
-    while i < 32 {
-        let b = pad[i as usize];
-        store(image, page + i, b);
-        i += 1;
+    for i in address % 32..32 {
+        store(image, page + i, pad[i as usize]);
     }
 }
 
 // The region of an address.
+#[tactic(auto, unfolding(crate::specs::Map::region_at))]
 pub fn region_of(address: u16) -> Region
     ensures { result ≡ region_at address }
 {
@@ -118,63 +122,52 @@ pub fn region_of(address: u16) -> Region
 }
 
 // The number in `count` bytes from `at` on, low byte first; of more than eight, the first eight.
+// Two numbers and no struct: most calls are of a record's or a head's bytes, where `Word { at: 24, count: 8 }` is no plainer.
+#[tactic(auto, using(crate::specs::Fields::Laws::word_past, crate::specs::Fields::Laws::word_next, crate::specs::Fields::Laws::word_none))]
 pub fn word(image: &[u8], at: usize, count: usize) -> u64
     ensures { result ≡ word_at image.now at (min count 8) }
 {
     if image.len() <= at {
         return 0;
     }
-    let mut i = up_to_8(count);
     let mut v: u64 = 0;
-    while 0 < i {
-        i -= 1;
+    for i in (0..count.min(8)).rev() {
         v = v * 256 + peek(image, at + i) as u64;
     }
     v
 }
 
 // Stores a number there, low byte first, as much of it as the bytes hold.
+#[tactic(auto, using(crate::specs::Fields::Laws::put_word_past, crate::specs::Fields::Laws::put_word_next, crate::specs::Fields::Laws::put_word_none))]
 pub fn put_word(image: &mut [u8], at: usize, count: usize, v: u64)
     ensures { image.new ≡ put_word image.old at (min count 8) v }
 {
     if image.len() <= at {
         return;
     }
-    let n = up_to_8(count);
     let mut rest = v;
-    let mut i = 0;
-    while i < n {
+    for i in 0..count.min(8) {
         poke(image, at + i, (rest % 256) as u8);
         rest /= 256;
-        i += 1;
     }
 }
 
-fn up_to_8(count: usize) -> usize
-    ensures { result ≡ min count 8 }
+// That bit.
+#[tactic(auto, unfolding(crate::specs::Fields::flag_at))]
+pub fn flag(image: &[u8], bit: Bit) -> bool
+    ensures { result ≡ flag_at image.now bit.at bit.index }
 {
-    if count < 8 { count } else { 8 }
-}
-
-// Bit `bit` of the byte at `at`.
-pub fn flag(image: &[u8], at: usize, bit: u8) -> bool
-    ensures { result ≡ flag_at image.now at bit }
-{
-    bits::bit(peek(image, at) as u64, bit)
+    bits::bit(peek(image, bit.at) as u64, bit.index)
 }
 
 // Makes that bit `b`; a byte has eight.
-pub fn put_flag(image: &mut [u8], at: usize, bit: u8, b: bool)
-    ensures { image.new ≡ put_flag image.old at bit b }
+#[tactic(auto, unfolding(crate::specs::Fields::put_flag, crate::specs::Fields::with_bit))]
+pub fn put_flag(image: &mut [u8], bit: Bit, b: bool)
+    ensures { image.new ≡ put_flag image.old bit.at bit.index b }
 {
-    if bit < 8 {
-        let one = 1u8 << bit;
-        let others = peek(image, at) & (255 - one);
-        if b {
-            poke(image, at, others | one);
-        } else {
-            poke(image, at, others);
-        }
+    if bit.index < 8 {
+        let others = peek(image, bit.at) & !(1u8 << bit.index);
+        poke(image, bit.at, others | (u8::from(b) << bit.index));
     }
 }
 
@@ -182,10 +175,10 @@ pub fn put_flag(image: &mut [u8], at: usize, bit: u8, b: bool)
 pub fn peek(image: &[u8], at: usize) -> u8
     ensures { result ≡ get_or image.now at 0 }
 {
-    if at < image.len() { image[at] } else { 0 }
+    image.get(at).copied().unwrap_or(0)
 }
 
-// Stores a byte at `at`; past the end, nothing.
+// Stores a byte at `at`; past the end, nothing. By index: of a write through `get_mut` a proof knows the length alone.
 pub fn poke(image: &mut [u8], at: usize, b: u8)
     ensures { image.new ≡ set image.old at b }
 {
@@ -195,50 +188,33 @@ pub fn poke(image: &mut [u8], at: usize, b: u8)
 }
 
 // Conditional Search asks: is BOR, THF or TLF 1?
+#[tactic(auto, unfolding(crate::specs::Answers::alarmed))]
 pub fn alarm(image: &[u8]) -> bool
     ensures { result ≡ alarmed image.now }
 {
-    if flag(image, ALARM_STATUS, BOR) {
-        return true;
-    }
-    if flag(image, ALARM_STATUS, THF) {
-        return true;
-    }
-    flag(image, ALARM_STATUS, TLF)
+    flag(image, BOR) || flag(image, THF) || flag(image, TLF)
 }
 
 // Read Memory asks: may this password field read?
+#[tactic(auto, unfolding(crate::specs::Answers::may_read))]
 pub fn may_read(image: &[u8], field: u64) -> bool
     ensures { result ≡ may_read image.now field }
 {
-    if may_control(image, field) {
-        return true;
-    }
-    field == word(image, READ_PASSWORD, 8)
+    may_control(image, field) || field == word(image, READ_PASSWORD, 8)
 }
 
 // Clear, Start and Stop ask: may this password field do it?
+#[tactic(auto, unfolding(crate::specs::Answers::may_control, crate::specs::Answers::checked))]
 pub fn may_control(image: &[u8], field: u64) -> bool
     ensures { result ≡ may_control image.now field }
 {
-    if peek(image, PASSWORD_CONTROL) == 0xAA {
-        return field == word(image, FULL_PASSWORD, 8);
-    }
-    true
+    peek(image, PASSWORD_CONTROL) != 0xAA || field == word(image, FULL_PASSWORD, 8)
 }
 
 // Copy asks: may this password field write at this address now?
+#[tactic(auto, unfolding(crate::specs::Answers::may_copy))]
 pub fn may_copy(image: &[u8], field: u64, address: u16) -> bool
     ensures { result ≡ may_copy image.now field address }
 {
-    if address < 0x0200 {
-        return may_control(image, field);
-    }
-    if address < 0x0280 {
-        if flag(image, GENERAL_STATUS, MIP) {
-            return false;
-        }
-        return may_control(image, field);
-    }
-    false
+    (address < 0x0200 || address < 0x0280 && !flag(image, MIP)) && may_control(image, field)
 }

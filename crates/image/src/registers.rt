@@ -1,4 +1,5 @@
-// The registers by the sheet's names. A register's place in the image is its address.
+// The registers by the sheet's names, and the flags in them. A register's place in the image is its address.
+use crate::Bit;
 
 // Six bytes: seconds, minutes, hours, date, month with CENT, year.
 pub const CLOCK: usize = 0x0200;
@@ -13,43 +14,75 @@ pub const HIGH_THRESHOLD: usize = 0x0209;
 // Two bytes: the reading times 32.
 pub const LATEST: usize = 0x020C;
 
-pub const ALARM_ENABLE: usize = 0x0210;
+pub const ETLA: Bit = Bit {
+    at: 0x0210,
+    index: 0,
+};
 
-pub const ETLA: u8 = 0;
+pub const ETHA: Bit = Bit {
+    at: 0x0210,
+    index: 1,
+};
 
-pub const ETHA: u8 = 1;
+pub const EOSC: Bit = Bit {
+    at: 0x0212,
+    index: 0,
+};
 
-pub const RTC_CONTROL: usize = 0x0212;
+pub const EHSS: Bit = Bit {
+    at: 0x0212,
+    index: 1,
+};
 
-pub const EOSC: u8 = 0;
+pub const ETL: Bit = Bit {
+    at: 0x0213,
+    index: 0,
+};
 
-pub const EHSS: u8 = 1;
+pub const TLFS: Bit = Bit {
+    at: 0x0213,
+    index: 2,
+};
 
-pub const MISSION_CONTROL: usize = 0x0213;
+pub const RO: Bit = Bit {
+    at: 0x0213,
+    index: 4,
+};
 
-pub const ETL: u8 = 0;
+pub const SUTA: Bit = Bit {
+    at: 0x0213,
+    index: 5,
+};
 
-pub const TLFS: u8 = 2;
+pub const TLF: Bit = Bit {
+    at: 0x0214,
+    index: 0,
+};
 
-pub const RO: u8 = 4;
+pub const THF: Bit = Bit {
+    at: 0x0214,
+    index: 1,
+};
 
-pub const SUTA: u8 = 5;
+pub const BOR: Bit = Bit {
+    at: 0x0214,
+    index: 7,
+};
 
-pub const ALARM_STATUS: usize = 0x0214;
+pub const MIP: Bit = Bit {
+    at: 0x0215,
+    index: 1,
+};
 
-pub const TLF: u8 = 0;
+pub const MEMCLR: Bit = Bit {
+    at: 0x0215,
+    index: 3,
+};
 
-pub const THF: u8 = 1;
-
-pub const BOR: u8 = 7;
-
-pub const GENERAL_STATUS: usize = 0x0215;
-
-pub const MIP: u8 = 1;
-
-pub const MEMCLR: u8 = 3;
-
-pub const WFTA: u8 = 4;
+pub const WFTA: Bit = Bit {
+    at: 0x0215,
+    index: 4,
+};
 
 // Three bytes.
 pub const DELAY: usize = 0x0216;

@@ -137,7 +137,7 @@ pub const ALWAYS_ONE: [u8; 64] = [
 ];
 
 // The bits that Read Memory sends as the image holds them: those that have a name and are no password. The code is the
-// record's.
+// record's. An array beside the two, and no struct of three: document 01 asks for those two as they are.
 pub const NAMED: [u8; 64] = [
     0x7F, // seconds 0200h
     0x7F, // minutes 0201h

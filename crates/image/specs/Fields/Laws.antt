@@ -4,7 +4,7 @@ use Rattle.std.specs.Prelude.{◌≡◌, refl, Bool, true, false, not, ◌&&◌,
 use Rattle.std.proofs.Common.{sym, ◌∙◌, subst, inl, inr, ⊎_elim, pow-suc, arith, lt-ltb, ltb-true, eq-eqb, ne_eqb, T_not, leb→le, le→leb, ltb→lt, length-set, get_or-set_same, get_or-set_other}
 use Rattle.std.specs.Bool.{beq}
 use Rattle.std.proofs.Math.Logic.{dite}
-use Rattle.std.proofs.Math.Nat.{mod-one, one-le-pow}
+use Rattle.std.proofs.Math.Nat.{mod-one, one-le-pow, lt_of_lt_of_le, pow-le-pow_right}
 use Rattle.std.proofs.Math.Decide.{ℕ_discrete, dec_lt}
 use Rattle.std.proofs.Math.Arith.{mod-mul}
 use Rattle.std.specs.Int.Bits.{bit_and, bit_or}
@@ -69,6 +69,25 @@ unfolding word_at
 word_past image at zero h = refl
 word_past image at (suc n) h = rw (get_or-eq_default image 0 h, word_past image (suc at) n (omega arith))
 
+-- of no bytes it is 0
+pub word_none : (image : List ℕ) (at n : ℕ) → n ≡ 0 → word_at image at n ≡ 0
+unfolding word_at
+word_none image at n e = rw e
+
+-- one byte more, below the others
+pub word_next : (image : List ℕ) (at n i : ℕ) → 0 < i → i ≤ n
+    → word_at image (at + i) (n - i) * 256 + get_or image (at + (i - 1)) 0 ≡ word_at image (at + (i - 1)) (n - (i - 1))
+unfolding word_at
+word_next image at n i pos le =
+    let count : n - (i - 1) ≡ suc (n - i) = omega arith in
+    let next : suc (at + (i - 1)) ≡ at + i = omega arith in
+    rw (count, word_at, next) (omega arith)
+
+-- of at most seven bytes it is below 2^56
+pub word_seven : (image : List ℕ) (at n : ℕ) → Bytes image → n ≤ 7 → word_at image at n < 256 ^ 7
+word_seven image at n bytes few =
+    lt_of_lt_of_le (word_lt image at n bytes) (pow-le-pow_right {n = 256} (omega arith) {i = n} {j = 7} few)
+
 -- a put keeps the length
 pub length_put_word : (image : List ℕ) (at n v : ℕ) → length (put_word image at n v) ≡ length image
 unfolding put_word
@@ -87,6 +106,20 @@ pub put_word_past : (image : List ℕ) (at n v : ℕ) → length image ≤ at �
 unfolding put_word
 put_word_past image at zero v h = refl
 put_word_past image at (suc n) v h = rw (set_out image at (v % 256) h, put_word_past image (suc at) n (v / 256) (omega arith))
+
+-- one byte of it put, the rest is put from the next place on
+pub put_word_next : (image : List ℕ) (at n i rest : ℕ) → i < n
+    → put_word (set image (at + i) (rest % 256)) (at + (i + 1)) (n - (i + 1)) (rest / 256) ≡ put_word image (at + i) (n - i) rest
+unfolding put_word
+put_word_next image at n i rest lt =
+    let count : n - i ≡ suc (n - (i + 1)) = omega arith in
+    let next : at + (i + 1) ≡ suc (at + i) = omega arith in
+    rw (count, put_word, next)
+
+-- and with no byte left nothing is
+pub put_word_none : (image : List ℕ) (at n v : ℕ) → n ≡ 0 → put_word image at n v ≡ image
+unfolding put_word
+put_word_none image at n v e = rw e
 
 outside : (image : List ℕ) (at n v k : ℕ) → (at + n ≤ k) ⊎ (k + 1 ≤ at) → get_or (put_word image at n v) k 0 ≡ get_or image k 0
 unfolding put_word

@@ -3,11 +3,13 @@ use Rattle.std.specs.Prelude.{◌≡◌, refl, Bool, ◌||◌, ◌&&◌, List, �
 use Rattle.std.proofs.Math.Logic.{dite}
 use Rattle.std.proofs.Math.Decide.{dec_lt}
 use Rattle.std.proofs.Common.{arith, eqb→eq, ltb→lt}
-use Rattle.std.specs.Int.Bits.{bit_and}
+use Rattle.std.specs.Int.Bits.{bit_and, and_zero_r}
 use Rattle.std.specs.Float.Ieee.Fits.{and_l, and_r}
 use Rattle.std.proofs.Math.ListN.{get_or-eq_default}
 use Rattle.bits.specs.Each.{each, each_at}
-use Rattle.image.specs.Tables.{writable, always_one, named}
+use Rattle.image.specs.Map.{byte_in}
+use Rattle.image.specs.Tables.{writable, always_one, named, register_at}
+use Rattle.image.specs.declared.Region.TheVariants.{Registers}
 
 -- each has 64 entries
 pub length_writable : length writable ≡ 64
@@ -64,3 +66,10 @@ password_shut o lo hi =
 pub always_one_unnamed : (o : ℕ) → o < 64 → bit_and (get_or named o 0) (get_or always_one o 0) ≡ 0
 unfolding named always_one
 always_one_unnamed o h = eqb→eq _ _ (each_at 64 (λ k. eqb (bit_and (get_or named k 0) (get_or always_one k 0)) 0) tt o h)
+
+-- past the 64 there is no register
+pub register_past : (image : List ℕ) (o : ℕ) → 64 ≤ o → register_at image o ≡ 0
+unfolding register_at
+register_past image o h =
+    let past : length named ≤ o = omega (arith, length_named) in
+    rw (get_or-eq_default named 0 past, and_zero_r (byte_in image (Registers o)))
