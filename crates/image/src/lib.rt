@@ -23,12 +23,9 @@ pub const CALIBRATION_AT: usize = 576;
 
 pub const LOG_AT: usize = 640;
 
-// One bit of a byte: where the byte lies, and which of its eight the bit is, 0 the lowest.
+// One bit of the image: where its byte lies, and which of the eight it is, 0 the lowest.
 #[derive(Clone, Copy)]
-pub struct Bit {
-    pub at: usize,
-    pub index: u8,
-}
+pub struct Bit(pub usize, pub u8);
 
 // Where an address lies, with the offset inside the region.
 #[derive(Clone, Copy)]
@@ -155,19 +152,19 @@ pub fn put_word(image: &mut [u8], at: usize, count: usize, v: u64)
 // That bit.
 #[tactic(auto, unfolding(crate::specs::Fields::flag_at))]
 pub fn flag(image: &[u8], bit: Bit) -> bool
-    ensures { result ≡ flag_at image.now bit.at bit.index }
+    ensures { result ≡ flag_at image.now bit.0 bit.1 }
 {
-    bits::bit(peek(image, bit.at) as u64, bit.index)
+    bits::bit(peek(image, bit.0) as u64, bit.1)
 }
 
 // Makes that bit `b`; a byte has eight.
 #[tactic(auto, unfolding(crate::specs::Fields::put_flag, crate::specs::Fields::with_bit))]
 pub fn put_flag(image: &mut [u8], bit: Bit, b: bool)
-    ensures { image.new ≡ put_flag image.old bit.at bit.index b }
+    ensures { image.new ≡ put_flag image.old bit.0 bit.1 b }
 {
-    if bit.index < 8 {
-        let others = peek(image, bit.at) & !(1u8 << bit.index);
-        poke(image, bit.at, others | (u8::from(b) << bit.index));
+    if bit.1 < 8 {
+        let others = peek(image, bit.0) & !(1u8 << bit.1);
+        poke(image, bit.0, others | (u8::from(b) << bit.1));
     }
 }
 

@@ -14,75 +14,33 @@ pub const HIGH_THRESHOLD: usize = 0x0209;
 // Two bytes: the reading times 32.
 pub const LATEST: usize = 0x020C;
 
-pub const ETLA: Bit = Bit {
-    at: 0x0210,
-    index: 0,
-};
+pub const ETLA: Bit = Bit(0x0210, 0);
 
-pub const ETHA: Bit = Bit {
-    at: 0x0210,
-    index: 1,
-};
+pub const ETHA: Bit = Bit(0x0210, 1);
 
-pub const EOSC: Bit = Bit {
-    at: 0x0212,
-    index: 0,
-};
+pub const EOSC: Bit = Bit(0x0212, 0);
 
-pub const EHSS: Bit = Bit {
-    at: 0x0212,
-    index: 1,
-};
+pub const EHSS: Bit = Bit(0x0212, 1);
 
-pub const ETL: Bit = Bit {
-    at: 0x0213,
-    index: 0,
-};
+pub const ETL: Bit = Bit(0x0213, 0);
 
-pub const TLFS: Bit = Bit {
-    at: 0x0213,
-    index: 2,
-};
+pub const TLFS: Bit = Bit(0x0213, 2);
 
-pub const RO: Bit = Bit {
-    at: 0x0213,
-    index: 4,
-};
+pub const RO: Bit = Bit(0x0213, 4);
 
-pub const SUTA: Bit = Bit {
-    at: 0x0213,
-    index: 5,
-};
+pub const SUTA: Bit = Bit(0x0213, 5);
 
-pub const TLF: Bit = Bit {
-    at: 0x0214,
-    index: 0,
-};
+pub const TLF: Bit = Bit(0x0214, 0);
 
-pub const THF: Bit = Bit {
-    at: 0x0214,
-    index: 1,
-};
+pub const THF: Bit = Bit(0x0214, 1);
 
-pub const BOR: Bit = Bit {
-    at: 0x0214,
-    index: 7,
-};
+pub const BOR: Bit = Bit(0x0214, 7);
 
-pub const MIP: Bit = Bit {
-    at: 0x0215,
-    index: 1,
-};
+pub const MIP: Bit = Bit(0x0215, 1);
 
-pub const MEMCLR: Bit = Bit {
-    at: 0x0215,
-    index: 3,
-};
+pub const MEMCLR: Bit = Bit(0x0215, 3);
 
-pub const WFTA: Bit = Bit {
-    at: 0x0215,
-    index: 4,
-};
+pub const WFTA: Bit = Bit(0x0215, 4);
 
 // Three bytes.
 pub const DELAY: usize = 0x0216;
