@@ -12,7 +12,7 @@ pub fn alarms(image: &[u8], reading: u16) -> bool
     high(image, reading) || low(image, reading)
 }
 
-// At or above the high threshold. It and `low` differ in enable, threshold and side: one function of these would say no less.
+// At or above the high threshold. Not one function with `low`: enable, threshold and side differ, which is all there is in it.
 #[tactic(auto, unfolding(crate::specs::Conversion::alarms_high, crate::specs::Conversion::is_high))]
 pub(crate) fn high(image: &[u8], reading: u16) -> bool
     ensures { result ≡ alarms_high image.now reading }
