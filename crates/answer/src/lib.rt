@@ -1,14 +1,12 @@
-// What every call of the tag and of the dock answers: accepted, or why not. One list for both, in the order of document 01's table and
-// of the numbers that the change requests add to it.
+// What every call of the tag and of the dock answers: accepted, or a refusal that says why not. One list for both, in the order of
+// document 01's table and of the numbers that the change requests add to it.
 #![tactic(auto)]
 
 ghost use Rattle.std.specs.Prelude.{◌≡◌};
-ghost use Rattle.answer.specs.Answer.{answer_number, refusal_text};
-ghost use Rattle.answer.specs.Answer.Laws.{place_of};
+ghost use Rattle.answer.specs.Answer.{refusal_number, answer_number, refusal_text};
 
-#[derive(Clone, Copy)]
-pub enum Answer {
-    Accepted,
+#[derive(Clone, Copy, PartialEq, Eq)]
+pub enum Refusal {
     // An event code above 4, or a list's word that is no event.
     EventCode,
     // A tick with a reading above 2047.
@@ -42,35 +40,36 @@ pub enum Answer {
 }
 
 // The number that document 01, or a change request, gives the answer.
-pub fn number(answer: Answer) -> u8
+pub fn number(answer: Result<(), Refusal>) -> u8
     ensures { result ≡ answer_number answer }
 {
-    let place = place(answer);
-    if place < 15 { place } else { 17 }
+    match answer {
+        Ok(()) => 0,
+        Err(refusal) => u8::from(refusal),
+    }
 }
 
-// The answer's place in the list, which up to 14 is its number. Places in a row need no table, and whoever asks for the number 0 asks
-// for the first of them (bench/README.md).
-fn place(answer: Answer) -> u8
-    ensures { result ≡ place_of answer }
-{
-    match answer {
-        Answer::Accepted => 0,
-        Answer::EventCode => 1,
-        Answer::Reading => 2,
-        Answer::ImageLength => 3,
-        Answer::RomNumber => 4,
-        Answer::Configuration => 5,
-        Answer::RecordRange => 6,
-        Answer::DumpForm => 7,
-        Answer::LineCrc => 8,
-        Answer::LinePage => 9,
-        Answer::Cleared => 10,
-        Answer::Counts => 11,
-        Answer::Places => 12,
-        Answer::SameNumber => 13,
-        Answer::TagPlace => 14,
-        Answer::Replies => 15,
+impl From<Refusal> for u8 {
+    ghost from_gives = { λ refusal number. number ≡ refusal_number refusal };
+
+    fn from(refusal: Refusal) -> u8 {
+        match refusal {
+            Refusal::EventCode => 1,
+            Refusal::Reading => 2,
+            Refusal::ImageLength => 3,
+            Refusal::RomNumber => 4,
+            Refusal::Configuration => 5,
+            Refusal::RecordRange => 6,
+            Refusal::DumpForm => 7,
+            Refusal::LineCrc => 8,
+            Refusal::LinePage => 9,
+            Refusal::Cleared => 10,
+            Refusal::Counts => 11,
+            Refusal::Places => 12,
+            Refusal::SameNumber => 13,
+            Refusal::TagPlace => 14,
+            Refusal::Replies => 17,
+        }
     }
 }
 
