@@ -1,7 +1,6 @@
 -- The dump of a tag: each line is the page as Read Memory sends it, with the CRC of that page read first (document 01, "The
 -- dump and its listing"). Assumes nothing.
-use Rattle.std.specs.Prelude.{◌≡◌, List, ℕ, ◌+◌, ◌≤◌, ◌<◌, length}
-use Rattle.answer.specs.declared.Answer.TheVariants.{Accepted}
+use Rattle.std.specs.Prelude.{◌≡◌, Ok, List, ℕ, ◌+◌, ◌≤◌, ◌<◌, length}
 use Rattle.bits.specs.Bytes.{Bytes}
 use Rattle.image.specs.Sent.{sent_at}
 use Rattle.image.specs.Sent.Laws.{sent_lt}
@@ -29,7 +28,7 @@ module _ (image : List ℕ) (code : ℕ) where
 -- ---- it is accepted, and gives back what was sent
 
 module _ (image : List ℕ) (code : ℕ) (bytes : Bytes image) (small : code < 256) where
-  pub dump_accepted : check_of (dump_of image code) ≡ Accepted
+  pub dump_accepted : check_of (dump_of image code) ≡ Ok tt
   unfolding dump_of
   dump_accepted = check_written (sent_at image code) (λ a. sent_lt image code a bytes small)
 

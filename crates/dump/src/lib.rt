@@ -3,11 +3,10 @@
 #![tactic(auto)]
 
 ghost use Rattle.std.specs.Prelude.{◌≡◌};
-ghost use Rattle.std.proofs.lemmas.List.Edits.{sets};
-ghost use Rattle.dump.specs.Check.{check_text, read_text, read_of, refused};
+ghost use Rattle.dump.specs.Check.{crc_right, read_text, read_of};
 ghost use Rattle.dump.specs.Lines.{page_of, page_in, crc_in, data_in, memory_at};
 
-use answer::Answer;
+use answer::Refusal;
 use hexadecimal::Pair;
 
 // The characters of a line: 36 bytes as two digits each, and the line feed.
@@ -23,96 +22,67 @@ const DATA: usize = 32;
 
 const MEMORY: usize = 8256;
 
-// What a dump says.
-#[derive(Drop)]
-pub struct Dumped {
-    pub answer: Answer,
-    // The data bytes, line by line; of a refused dump, zeros.
-    pub memory: [u8; MEMORY],
-}
-
-// Accepted and the dump's data bytes, or the refusal: 7 for the length, then the first bad line's 7, 9 or 8.
-pub fn read(dump: &[u8]) -> Dumped
+// The dump's data bytes, or the refusal: 7 for the length, then the first bad line's 7, 9 or 8.
+pub fn read(dump: &[u8]) -> Result<[u8; MEMORY], Refusal>
     ensures { result ≡ read_of dump.now }
 {
     if dump.len() != LENGTH {
-        return refuse(Answer::DumpForm);
+        return Err(Refusal::DumpForm);
     }
     let mut memory = [0u8; MEMORY];
+    // By number, since it gives a line's text, its page and its data's place.
     for line in 0..LINES {
         let start = LINE * line;
-        let answer = read_text(
-            &dump[start..start + LINE],
-            page_of(line),
-            &mut memory,
-            DATA * line,
-        );
-        if answer::number(answer) != 0 {
-            return refuse(answer);
-        }
+        let data = read_text(&dump[start..start + LINE], page_of(line))?;
+        let at = DATA * line;
+        memory[at..at + DATA].copy_from_slice(&data);
     }
-    Dumped {
-        answer: Answer::Accepted,
-        memory,
-    }
+    Ok(memory)
 }
 
-// A refusal has no bytes.
-#[tactic(auto, unfolding(crate::specs::Check::refused))]
-fn refuse(answer: Answer) -> Dumped
-    ensures { result ≡ refused answer }
-{
-    let memory = [0u8; MEMORY];
-    Dumped { answer, memory }
-}
-
-// One line's text, whose place asks this page: 7, then 9, then 8. Its digits are read once; if it is accepted, its data bytes are
-// stored from `at` on.
-fn read_text(text: &[u8], page: u16, memory: &mut [u8], at: usize) -> Answer
-    ensures value { result ≡ check_text text.now page }
-    ensures memory_after { memory.new ≡ sets memory.old at (read_text text.now page) }
+// The data bytes of one line's text, whose place asks this page, or the refusal: 7, then 9, then 8. Its digits are read once.
+fn read_text(text: &[u8], page: u16) -> Result<[u8; DATA], Refusal>
+    ensures { result ≡ read_text text.now page }
 {
     if text.len() != LINE {
-        return Answer::DumpForm;
+        return Err(Refusal::DumpForm);
     }
     let mut bytes = [0u8; 36];
+    // By index: after `iter_mut` a proof knows no byte.
     for i in 0..36 {
         let Pair::Byte(byte) = hexadecimal::pair_at(text, 2 * i) else {
-            return Answer::DumpForm;
+            return Err(Refusal::DumpForm);
         };
         bytes[i] = byte;
     }
-    let end = text[72];
-    let shown = page_in(bytes);
-    let crc = crc_in(bytes);
-    let low = crc::sent_low(crc);
-    let high = crc::sent_high(crc);
-    if end != b'\n' {
-        Answer::DumpForm
-    } else if shown != page {
-        Answer::LinePage
-    } else if bytes[34] != low {
-        Answer::LineCrc
-    } else if bytes[35] != high {
-        Answer::LineCrc
+    if text[72] != b'\n' {
+        Err(Refusal::DumpForm)
+    } else if page_in(bytes) != page {
+        Err(Refusal::LinePage)
+    } else if !crc_right(bytes) {
+        Err(Refusal::LineCrc)
     } else {
-        put_data(memory, at, bytes);
-        Answer::Accepted
+        Ok(data_in(bytes))
     }
 }
 
-// Stores the data bytes of a line from `at` on; what falls past the end is left out.
-fn put_data(memory: &mut [u8], at: usize, bytes: [u8; 36])
-    ensures { memory.new ≡ sets memory.old at (data_in bytes) }
+// Whether a line's last two bytes are those that Read Memory sends of the CRC.
+#[tactic(auto, unfolding(crate::specs::Check::crc_right))]
+fn crc_right(bytes: [u8; 36]) -> bool
+    ensures { result ≡ crc_right bytes }
 {
-    if memory.len() <= at {
-        return;
-    }
-    let room = memory.len() - at;
-    let count = if room < DATA { room } else { DATA };
-    for i in 0..count {
-        memory[at + i] = bytes[2 + i];
-    }
+    let crc = crc_in(bytes);
+    bytes[34] == crc::sent_low(crc) && bytes[35] == crc::sent_high(crc)
+}
+
+// The data bytes of a line.
+#[tactic(auto, unfolding(crate::specs::Lines::data_in))]
+fn data_in(bytes: [u8; 36]) -> [u8; DATA]
+    ensures { result ≡ data_in bytes }
+{
+    let mut data = [0u8; DATA];
+    data.copy_from_slice(&bytes[2..34]);
+    data
 }
 
 // The page that a line shows, high byte first.
@@ -120,7 +90,7 @@ fn put_data(memory: &mut [u8], at: usize, bytes: [u8; 36])
 fn page_in(bytes: [u8; 36]) -> u16
     ensures { result ≡ page_in bytes }
 {
-    bytes[0] as u16 * 256 + bytes[1] as u16
+    u16::from_be_bytes([bytes[0], bytes[1]])
 }
 
 // The CRC-16 that Read Memory takes of a line's page and data: over the command, the address low byte first, and the data.

@@ -1,59 +1,30 @@
 -- `dump::read_text` meets its contract: a text of another length or with a pair that is no byte is refused, and what is read of any other
--- decides by the four tests that are left. Assumes nothing.
-use Rattle.std.proofs.Common.{ℕ, ◌≡◌, ◌-◌, ◌*◌, ◌≤◌, length-set, ◌&&◌, not, false, eqb, List, length, get_or, take, refl, sym, ◌∙◌, arith, eq-eqb}
-use Rattle.std.proofs.lemmas.Grind.{common_steps}
-use Rattle.std.proofs.lemmas.List.Edits.{sets}
-use Rattle.std.specs.Prelude.{if◌then◌else◌}
-use Rattle.answer.specs.Answer.{answer_number}
-use Rattle.answer.specs.declared.Answer.{Answer}
-use Rattle.answer.specs.declared.Answer.TheVariants.{Accepted, DumpForm, LinePage, LineCrc}
-use Rattle.crc.specs.Crc.{sent_low, sent_high}
+-- decides by the tests that are left. Assumes nothing.
+use Rattle.std.proofs.Common.{ℕ, ◌≡◌, ◌-◌, ◌*◌, ◌≤◌, length-set, true, false, List, length, get_or, take, sym, ◌∙◌}
 use Rattle.hexadecimal.specs.Hex.{all_digits, pair_at}
 use Rattle.hexadecimal.specs.Hex.Text.{read_bad, read_byte, read_more, read_all, read_done}
 use Rattle.hexadecimal.specs.declared.Pair.TheVariants.{Byte, Bad}
-use Rattle.dump.specs.Lines.{bytes_in, page_in, crc_in}
-use Rattle.dump.specs.Check.{formed, crc_right, check_text, read_text}
-use Rattle.dump.specs.Check.Laws.{formed_not_long, formed_not_digits, check_form, text_refused, text_accepted}
+use Rattle.dump.specs.Lines.{bytes_in}
+use Rattle.dump.specs.Check.{formed, crc_right}
+use Rattle.dump.specs.Check.Laws.{formed_not_long, formed_not_digits, formed_not_ended, formed_whole, check_form, check_page, check_crc, check_accepted, text_refused, text_accepted}
 use Rattle.dump.proofs.read_text.Goals as goal
-
--- a refused line stores nothing
-refuses : (text memory : List ℕ) (page at : ℕ) {a : Answer} → check_text text page ≡ a → eqb (answer_number a) 0 ≡ false
-    → record { value : a ≡ check_text text page; memory_after : memory ≡ sets memory at (read_text text page) }
-refuses text memory page at e refused = record { value = sym e; memory_after = rw (text_refused text page e refused) }
 
 -- what the loop keeps, and what that is once all is read
 abbrev SoFar : List ℕ → List ℕ → ℕ → Type 0
 SoFar text bytes i =
     (length bytes ≡ 36) × (take i bytes ≡ take i (bytes_in text)) × (all_digits text (2 * i) (36 - i) ≡ all_digits text 0 36)
 
-all_read : (text bytes : List ℕ) (i : ℕ) → 36 ≤ i → SoFar text bytes i → bytes ≡ bytes_in text
-all_read text bytes i past so = read_all text 36 i bytes so.0 past so.1
+module _ (text bytes : List ℕ) (i : ℕ) (past : 36 ≤ i) (so : SoFar text bytes i) where
+  read : bytes_in text ≡ bytes
+  read = sym (read_all text 36 i bytes so.0 past so.1)
 
--- what the tests that are left decide
-decides : (text bytes : List ℕ) (page i : ℕ) {shown crc low high : ℕ} → length text ≡ 73 → 36 ≤ i → SoFar text bytes i
-    → shown ≡ page_in bytes → crc ≡ crc_in bytes → low ≡ sent_low crc → high ≡ sent_high crc
-    → check_text text page
-    ≡ (if not (eqb (get_or text 72 0) 0x0A) then DumpForm
-    else if not (eqb shown page) then LinePage
-    else if not (eqb (get_or bytes 34 0) low && eqb (get_or bytes 35 0) high) then LineCrc
-    else Accepted)
-unfolding check_text formed crc_right
-decides text bytes page i long past so shown crc low high =
-    simp (
-      eq-eqb (length text) 73 long,
-      sym so.2 ∙ read_done text 36 i past,
-      ← all_read text bytes i past so,
-      shown,
-      low,
-      high,
-      crc,
-    )
+  whole : length text ≡ 73 → get_or text 72 0 ≡ 0x0A → formed text ≡ true
+  whole long ended = formed_whole text long (sym so.2 ∙ read_done text 36 i past) ended
 
 pub returns-then-text-ne-LINE : goal.returns-then-text-ne-LINE
 returns-then-text-ne-LINE c =
     let a = c.args in
-    let short = check_form a.text.now a.page (formed_not_long a.text.now c.if-text-ne-LINE.true) in
-    refuses a.text.now a.memory.now a.page a.at short refl
+    sym (text_refused a.text.now a.page (check_form a.text.now a.page (formed_not_long a.text.now c.if-text-ne-LINE.true)))
 
 pub returns-in_default : goal.returns-in_default
 returns-in_default c =
@@ -61,7 +32,7 @@ returns-in_default c =
     let turn = c.loop-i in
     let bad : pair_at a.text.now (2 * turn.i) ≡ Bad = sym c.pair_at.ensures ∙ c.in_default.is in
     let digits = sym turn.invariant.2 ∙ read_bad a.text.now 36 turn.i c.loop-i-test.true bad in
-    refuses a.text.now a.memory.now a.page a.at (check_form a.text.now a.page (formed_not_digits a.text.now digits)) refl
+    sym (text_refused a.text.now a.page (check_form a.text.now a.page (formed_not_digits a.text.now digits)))
 
 pub loop-i-preserved : goal.loop-i-preserved
 loop-i-preserved c =
@@ -74,44 +45,34 @@ loop-i-preserved c =
       read_byte text 36 turn.i inside byte ∙ turn.invariant.2,
     )
 
-pub returns-then-end-ne10 : goal.returns-then-end-ne10
-returns-then-end-ne10 c =
+pub returns-then-text-ne10 : goal.returns-then-text-ne10
+returns-then-text-ne10 c =
     let a = c.args in
-    let tests =
-    decides a.text.now c.loop-i.bytes a.page c.loop-i.i c.if-text-ne-LINE.false c.loop-i-test.false c.loop-i.invariant
-    c.page_in-shown.ensures c.crc_in-crc.ensures c.sent_low-low.ensures c.sent_high-high.ensures in
-    refuses a.text.now a.memory.now a.page a.at (tests ∙ grind (arith, common_steps)) refl
+    sym (text_refused a.text.now a.page (check_form a.text.now a.page (formed_not_ended a.text.now c.if-text-ne10.true)))
 
-pub returns-then-shown-page : goal.returns-then-shown-page
-returns-then-shown-page c =
+pub returns-then-page_in-page : goal.returns-then-page_in-page
+returns-then-page_in-page c =
     let a = c.args in
-    let tests =
-    decides a.text.now c.loop-i.bytes a.page c.loop-i.i c.if-text-ne-LINE.false c.loop-i-test.false c.loop-i.invariant
-    c.page_in-shown.ensures c.crc_in-crc.ensures c.sent_low-low.ensures c.sent_high-high.ensures in
-    refuses a.text.now a.memory.now a.page a.at (tests ∙ grind (arith, common_steps)) refl
+    let end = c.loop-i in
+    let read = read a.text.now end.bytes end.i c.loop-i-test.false end.invariant in
+    let whole = whole a.text.now end.bytes end.i c.loop-i-test.false end.invariant c.if-text-ne-LINE.false c.if-text-ne10.false in
+    sym (text_refused a.text.now a.page (check_page a.text.now a.page read whole (λ e. c.if-page_in-page.true (c.page_in.ensures ∙ e))))
 
-pub returns-then-bytes-low : goal.returns-then-bytes-low
-returns-then-bytes-low c =
+pub returns-then-not-crc_right : goal.returns-then-not-crc_right
+returns-then-not-crc_right c =
     let a = c.args in
-    let tests =
-    decides a.text.now c.loop-i.bytes a.page c.loop-i.i c.if-text-ne-LINE.false c.loop-i-test.false c.loop-i.invariant
-    c.page_in-shown.ensures c.crc_in-crc.ensures c.sent_low-low.ensures c.sent_high-high.ensures in
-    refuses a.text.now a.memory.now a.page a.at (tests ∙ grind (arith, common_steps)) refl
+    let end = c.loop-i in
+    let read = read a.text.now end.bytes end.i c.loop-i-test.false end.invariant in
+    let whole = whole a.text.now end.bytes end.i c.loop-i-test.false end.invariant c.if-text-ne-LINE.false c.if-text-ne10.false in
+    let wrong : crc_right end.bytes ≡ false = sym c.crc_right.ensures ∙ c.if-not-crc_right.true in
+    sym (text_refused a.text.now a.page (check_crc a.text.now a.page read whole (sym c.page_in.ensures ∙ c.if-page_in-page.false) wrong))
 
-pub returns-then-bytes-high : goal.returns-then-bytes-high
-returns-then-bytes-high c =
+pub returns-else-not-crc_right : goal.returns-else-not-crc_right
+returns-else-not-crc_right c =
     let a = c.args in
-    let tests =
-    decides a.text.now c.loop-i.bytes a.page c.loop-i.i c.if-text-ne-LINE.false c.loop-i-test.false c.loop-i.invariant
-    c.page_in-shown.ensures c.crc_in-crc.ensures c.sent_low-low.ensures c.sent_high-high.ensures in
-    refuses a.text.now a.memory.now a.page a.at (tests ∙ grind (arith, common_steps)) refl
-
-pub returns-else-bytes-high : goal.returns-else-bytes-high
-returns-else-bytes-high c =
-    let a = c.args in
-    let tests =
-    decides a.text.now c.loop-i.bytes a.page c.loop-i.i c.if-text-ne-LINE.false c.loop-i-test.false c.loop-i.invariant
-    c.page_in-shown.ensures c.crc_in-crc.ensures c.sent_low-low.ensures c.sent_high-high.ensures in
-    let ok : check_text a.text.now a.page ≡ Accepted = tests ∙ grind (arith, common_steps) in
-    let read = all_read a.text.now c.loop-i.bytes c.loop-i.i c.loop-i-test.false c.loop-i.invariant in
-    record { value = sym ok; memory_after = rw (c.put_data.ensures, read, text_accepted a.text.now a.page ok) }
+    let end = c.loop-i in
+    let read = read a.text.now end.bytes end.i c.loop-i-test.false end.invariant in
+    let whole = whole a.text.now end.bytes end.i c.loop-i-test.false end.invariant c.if-text-ne-LINE.false c.if-text-ne10.false in
+    let right : crc_right end.bytes ≡ true = sym c.crc_right.ensures ∙ c.if-not-crc_right.false in
+    let accepted = check_accepted a.text.now a.page read whole (sym c.page_in.ensures ∙ c.if-page_in-page.false) right in
+    rw (c.data_in.ensures, ← read) (sym (text_accepted a.text.now a.page accepted))

@@ -1,5 +1,5 @@
 -- And back: a dump that is accepted is the text of its bytes, so two of them with the same bytes are the same. Assumes nothing.
-use Rattle.std.specs.Prelude.{◌≡◌, refl, Bool, true, false, ◌&&◌, not, ℕ, zero, suc, ◌+◌, ◌*◌, ◌/◌, ◌%◌, ◌<◌, take, if◌then◌else◌}
+use Rattle.std.specs.Prelude.{◌≡◌, refl, Bool, true, false, ◌&&◌, not, Ok, Err, ℕ, zero, suc, ◌+◌, ◌*◌, ◌/◌, ◌%◌, ◌<◌, take, if◌then◌else◌}
 use Rattle.std.proofs.Common.{sym, ap, ◌∙◌, add-zero, add-suc, suc-add, length-take, length-drop, take-append-drop, take-add, drop-drop, ext_get_or}
 use Rattle.std.proofs.Math.Path.{fun_ext}
 use Rattle.std.proofs.Math.Bool.{and-eq-true_iff}
@@ -10,9 +10,8 @@ use borrow.Author.Tests.{eqb-true, eqb-false}
 use Rattle.std.proofs.Math.Dec.{eqb}
 use Rattle.std.proofs.Math.ListN.{length, get_or, drop, drop_of_length-le}
 use Rattle.std.proofs.Math.Seq.{drop-cons, take_all}
-use Rattle.answer.specs.Answer.{answer_number}
-use Rattle.answer.specs.declared.Answer.{Answer}
-use Rattle.answer.specs.declared.Answer.TheVariants.{Accepted, DumpForm, LineCrc, LinePage}
+use Rattle.answer.specs.Answer.{Answer, answer_number}
+use Rattle.answer.specs.declared.Refusal.TheVariants.{DumpForm, LineCrc, LinePage}
 use Rattle.crc.specs.Crc.{sent_low, sent_high}
 use Rattle.hexadecimal.specs.Hex.{hex_text, all_digits}
 use Rattle.hexadecimal.specs.Hex.Text.{text_bytes, length_bytes, bytes_small}
@@ -44,9 +43,9 @@ module _ (text : List ℕ) (page : ℕ) (accepted : answer_number (check_text te
   tests : (formed text ≡ true) × (eqb (page_in (bytes_in text)) page ≡ true) × (crc_right (bytes_in text) ≡ true)
   unfolding check_text
   tests =
-      let form = passed (formed text) _ DumpForm (λ e. omega arith) accepted in
-      let shown = passed (eqb (page_in (bytes_in text)) page) _ LinePage (λ e. omega arith) form.1 in
-      (form.0, shown.0, (passed (crc_right (bytes_in text)) Accepted LineCrc (λ e. omega arith) shown.1).0)
+      let form = passed (formed text) _ (Err DumpForm) (λ e. omega arith) accepted in
+      let shown = passed (eqb (page_in (bytes_in text)) page) _ (Err LinePage) (λ e. omega arith) form.1 in
+      (form.0, shown.0, (passed (crc_right (bytes_in text)) (Ok tt) (Err LineCrc) (λ e. omega arith) shown.1).0)
 
   -- its text is that of its bytes
   text_whole : hex_text (bytes_in text) ++ (0x0A ∷ []) ≡ text
@@ -135,10 +134,10 @@ data_dumped dump line h =
     ext_get_or 0 (bytes_from (dumped_at dump) (page_of line) 32) (take 32 (drop 2 bytes)) (count ∙ sym long)
     (λ i k. from_at (dumped_at dump) (page_of line) 32 i (omega arith) ∙ dumped_page dump line i h (omega arith))
 
-module _ (dump : List ℕ) (accepted : check_of dump ≡ Accepted) where
+module _ (dump : List ℕ) (accepted : check_of dump ≡ Ok tt) where
   accepted_parts : (eqb (length dump) 18834 ≡ true) × (answer_number (check_lines dump 0 258) ≡ 0)
   unfolding check_of
-  accepted_parts = passed (eqb (length dump) 18834) (check_lines dump 0 258) DumpForm (λ e. omega arith) (ap answer_number accepted)
+  accepted_parts = passed (eqb (length dump) 18834) (check_lines dump 0 258) (Err DumpForm) (λ e. omega arith) (ap answer_number accepted)
 
   pub accepted_length : length dump ≡ 18834
   accepted_length = eqb-true (length dump) 18834 accepted_parts.0
@@ -153,6 +152,6 @@ module _ (dump : List ℕ) (accepted : check_of dump ≡ Accepted) where
           let answer = rw zero-add at (lines_each dump 0 258 accepted_parts.1 k h) in
           rw (zero-add, data_dumped dump k h) (line_unique (line_at dump k) (page_of k) answer)
 
-pub accepted_unique : (d e : List ℕ) → check_of d ≡ Accepted → check_of e ≡ Accepted → ((a : ℕ) → dumped_at d a ≡ dumped_at e a)
+pub accepted_unique : (d e : List ℕ) → check_of d ≡ Ok tt → check_of e ≡ Ok tt → ((a : ℕ) → dumped_at d a ≡ dumped_at e a)
     → d ≡ e
 accepted_unique d e p q same = sym (accepted_text d p) ∙ ap dump_text (fun_ext same) ∙ accepted_text e q

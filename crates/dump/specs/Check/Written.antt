@@ -1,10 +1,9 @@
 -- The round trip: a dump that is written is accepted, and gives back every byte. Assumes nothing.
-use Rattle.std.specs.Prelude.{◌≡◌, refl, true, ℕ, zero, suc, ◌+◌, ◌-◌, ◌*◌, ◌/◌, ◌%◌, ◌≤◌, ◌<◌, length, get_or}
+use Rattle.std.specs.Prelude.{◌≡◌, refl, true, Ok, ℕ, zero, suc, ◌+◌, ◌-◌, ◌*◌, ◌/◌, ◌%◌, ◌≤◌, ◌<◌, length, get_or}
 use Rattle.std.proofs.Common.{sym, ap, ◌∙◌, add-zero, zero-add, add-suc, suc-add, arith}
 use mathlib.Core.List.{List, [], ◌∷◌}
 use Rattle.std.proofs.lemmas.List.{get_or_at}
 use Rattle.answer.specs.Answer.{answer_number}
-use Rattle.answer.specs.declared.Answer.TheVariants.{Accepted}
 use Rattle.crc.specs.Crc.{sent_low, sent_high}
 use Rattle.hexadecimal.specs.Hex.{hex_text}
 use Rattle.hexadecimal.specs.Hex.Text.{length_text, digits_text}
@@ -28,7 +27,7 @@ module _ (page : ℕ) (bytes : List ℕ) (long : length bytes ≡ 32) (fits : pa
       (digits_text all (0x0A ∷ []) all_small 0 36 (omega arith))
       (get_or_at (hex_text all) 0x0A [] 0 72 (omega (arith, length_text all)))
 
-  pub line_accepted : check_text (line_of page bytes) page ≡ Accepted
+  pub line_accepted : check_text (line_of page bytes) page ≡ Ok tt
   line_accepted =
       let high = page / 256 in
       let low = page % 256 in
@@ -42,24 +41,24 @@ module _ (page : ℕ) (bytes : List ℕ) (long : length bytes ≡ 32) (fits : pa
 
 -- ---- line by line
 
-pub lines_accepted : (dump : List ℕ) (line count : ℕ) → ((k : ℕ) → k < count → check_line dump (line + k) ≡ Accepted)
-    → check_lines dump line count ≡ Accepted
+pub lines_accepted : (dump : List ℕ) (line count : ℕ) → ((k : ℕ) → k < count → check_line dump (line + k) ≡ Ok tt)
+    → check_lines dump line count ≡ Ok tt
 unfolding check_lines
 lines_accepted dump line zero all = refl
 lines_accepted dump line (suc count) all =
-    let first : check_line dump line ≡ Accepted = rw add-zero at (all 0 (omega arith)) in
+    let first : check_line dump line ≡ Ok tt = rw add-zero at (all 0 (omega arith)) in
     first_accepted (check_line dump line) (check_lines dump (suc line) count) (ap answer_number first)
     ∙ lines_accepted dump (suc line) count (λ k h. rw (suc-add, ← add-suc) (all (suc k) (omega arith)))
 
 -- ---- the dump of a memory
 
 module _ (byte : ℕ → ℕ) (small : (a : ℕ) → byte a < 256) where
-  pub check_written : check_of (dump_text byte) ≡ Accepted
+  pub check_written : check_of (dump_text byte) ≡ Ok tt
   unfolding check_line
   check_written =
       check_lines_lem (dump_text byte) (length_dump byte) ∙ lines_accepted (dump_text byte) 0 258 each
     where
-      each : (k : ℕ) → k < 258 → check_line (dump_text byte) (0 + k) ≡ Accepted
+      each : (k : ℕ) → k < 258 → check_line (dump_text byte) (0 + k) ≡ Ok tt
       each k h =
           let page = page_of k in
           rw (zero-add, line_at_lem byte k h)

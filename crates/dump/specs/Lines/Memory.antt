@@ -16,7 +16,7 @@ pub length_data : (bytes : List ℕ) → length bytes ≡ 36 → length (data_in
 unfolding data_in
 length_data bytes long = rw (length-take 32 (drop 2 bytes), length-drop 2 bytes, long)
 
-length_line_data : (dump : List ℕ) (line : ℕ) → length (data_in (bytes_in (line_at dump line))) ≡ 32
+pub length_line_data : (dump : List ℕ) (line : ℕ) → length (data_in (bytes_in (line_at dump line))) ≡ 32
 length_line_data dump line = length_data (bytes_in (line_at dump line)) (length_bytes (line_at dump line) 0 36)
 
 pub length_data_lines : (dump : List ℕ) (line count : ℕ) → length (data_lines dump line count) ≡ 32 * count
