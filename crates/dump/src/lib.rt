@@ -20,7 +20,7 @@ const LENGTH: usize = 18834;
 // The data bytes of a line, and of all lines.
 const DATA: usize = 32;
 
-const MEMORY: usize = 8256;
+pub const MEMORY: usize = 8256;
 
 // The dump's data bytes, or the refusal: 7 for the length, then the first bad line's 7, 9 or 8.
 pub fn read(dump: &[u8]) -> Result<[u8; MEMORY], Refusal>
