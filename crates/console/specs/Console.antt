@@ -1,7 +1,8 @@
 -- What the programs that play events take in, print and leave (document 01, "What is built"; request #106), over groups of any size and
 -- over whatever goes in and comes back with an event: a tag's record, or a line's. Assumes nothing.
-use Rattle.std.specs.Prelude.{Bool, true, false, List, [], ◌∷◌, ◌++◌, ◌≡◌, ℕ, zero, suc, ◌+◌, ◌*◌, ◌-◌, ◌/◌, ◌%◌, ◌≤◌, min, eqb, length, take, drop, if◌then◌else◌}
-use Rattle.answer.specs.Answer.{refusal_text}
+use Rattle.std.specs.Prelude.{Bool, true, false, List, [], ◌∷◌, ◌++◌, ◌≡◌, ℕ, zero, suc, ◌+◌, ◌*◌, ◌-◌, ◌/◌, ◌%◌, ◌≤◌, min, eqb, length, take, drop, if◌then◌else◌, Result, Ok, Err}
+use Rattle.answer.specs.Answer.{refusal_number, refusal_text}
+use Rattle.answer.specs.declared.Refusal.{Refusal}
 use Rattle.bits.specs.Bits.{digit}
 
 -- ---- groups
@@ -40,6 +41,11 @@ bit_text line = (0x30 + digit line) ∷ 0x0A ∷ []
 unfoldable pub answer_text : ℕ → Bool → List ℕ
 answer_text number line = if eqb number 0 then bit_text line else refusal_text number
 
+-- the same of a line bit, or of a refusal
+abbrev pub reply_text : Result Bool Refusal → List ℕ
+reply_text (Ok line) = bit_text line
+reply_text (Err refusal) = refusal_text (refusal_number refusal)
+
 -- ---- a session
 
 -- what an event answers and leaves: its number, the line bit, what comes back, and the lent bytes
@@ -48,6 +54,11 @@ pub record Reply (A : Type 0) : Type 0 where
   pub line : Bool
   pub back : A
   pub lent : List ℕ
+
+-- a line bit or a refusal says the same
+abbrev pub Answers : {A : Type 0} → Reply A → Result Bool Refusal → Type 0
+Answers reply (Ok line) = (reply.number ≡ 0) × (reply.line ≡ line)
+Answers reply (Err refusal) = reply.number ≡ refusal_number refusal
 
 -- what events leave one after the other: the text printed, what comes back, the lent bytes, and whether all of them were accepted
 pub record Session (A : Type 0) : Type 0 where
@@ -72,3 +83,9 @@ played reply lent back (group ∷ groups) =
     let r = reply lent back group in
     printing (answer_text r.number r.line)
     (if eqb r.number 0 then played reply r.lent r.back groups else over false r.lent r.back)
+
+-- what is left is what the events of some groups leave, as they come
+pub record Leaves {A : Type 0} (reply : List ℕ → A → List ℕ → Reply A) (lent : List ℕ) (back : A) (lent' : List ℕ) (back' : A) : Type 0 where
+  pub came : List (List ℕ)
+  pub lent_after : lent' ≡ (played reply lent back came).lent
+  pub back_after : back' ≡ (played reply lent back came).back

@@ -1,15 +1,98 @@
-// What the programs that play events share: whole groups of bytes from standard input, the text of an answer, and printing it.
+// What the programs that play events share: a session over whole groups of bytes from standard input, for whatever takes an event, the
+// text of an answer, and printing it.
 #![tactic(auto)]
 
-ghost use Rattle.std.specs.Prelude.{true, not, [], ◌≡◌, ◌≤◌, ◌+◌, ◌%◌, min, eqb, length, take};
+ghost use Rattle.std.specs.Prelude.{true, not, [], ◌≡◌, ◌≤◌, ◌+◌, ◌%◌, ℕ, List, is_ok, eqb, length, take};
 ghost use Rattle.std.proofs.lemmas.List.Edits.{sets};
-ghost use Rattle.answer.specs.Answer.{answer_number, refusal_text};
-ghost use Rattle.bits.specs.Bits.{digit};
-ghost use Rattle.console.specs.Console.{begun_in, Behind, reading_of, answer_text, bit_text};
+ghost use Rattle.answer.specs.Answer.{answer_number};
+ghost use Rattle.console.specs.Console.{begun_in, groups_in, Behind, Reply, Answers, Leaves, played, reading_of, reply_text};
 
-use answer::Answer;
+use answer::Refusal;
 use image::{peek, poke};
 use std::io::{Print, Read, Stdin, Stdout};
+
+// How a program takes events, each a group of N bytes: by a record that goes in and comes back, and bytes lent to it.
+pub trait Plays<const N: usize> {
+    // A tag's record, or a line's.
+    type Record;
+
+    // What an event of a group answers and leaves.
+    ghost reply: { List ℕ → Self.Record → List ℕ → Reply Self.Record };
+
+    // The line bit, or why the event is refused.
+    fn event(record: &mut Self::Record, lent: &mut [u8], group: &[u8; N]) -> Result<bool, Refusal>
+        ensures answer { Answers (reply lent.old record.old group.now) result }
+        ensures record_after { record.new ≡ (reply lent.old record.old group.now).back }
+        ensures lent_after { lent.new ≡ (reply lent.old record.old group.now).lent };
+
+    // A group is no shorter than a line bit's text, and no longer than what is read at once.
+    ghost sized: { (2 ≤ N) × (N ≤ 65536) };
+}
+
+// How a session went: how many bytes it prints, and the refusal that ended it, if one did.
+#[derive(Clone, Copy)]
+struct Played {
+    printed: usize,
+    answer: Result<(), Refusal>,
+}
+
+// Each turn reads once, and prints the answers to the whole groups that are then held. So a group is answered before the next
+// read that could wait, and the bytes of one that has only begun stay for the next turn. A proved loop has to end, and nothing
+// says that the input does: so the turns are counted, up to a number that no run reaches. There is no heap: so both buffers are arrays,
+// and how much they hold stands beside them.
+pub fn play<const N: usize, P: Plays<N>>(
+    stdin: Stdin,
+    stdout: Stdout,
+    record: &mut P::Record,
+    lent: &mut [u8],
+)
+    ensures { Leaves P.reply lent.old record.old lent.new record.new }
+{
+    let mut input = [0u8; 65536];
+    let mut out = [0u8; 65536];
+    let mut held = 0;
+    for _ in 0..u64::MAX {
+        let begun = move_begun(&mut input, held, N);
+        held = read_behind(stdin, &mut input, begun);
+        let played = play_groups::<N, P>(record, lent, &input[..held], &mut out);
+        let text = &out[..played.printed.min(65536)];
+        if held == begun || !print(stdout, text) || played.answer.is_err() {
+            return;
+        }
+    }
+}
+
+// Plays the whole groups. What they print goes to the start of `out`, as much of it as there is room for.
+fn play_groups<const N: usize, P: Plays<N>>(
+    record: &mut P::Record,
+    lent: &mut [u8],
+    input: &[u8],
+    out: &mut [u8],
+) -> Played
+    ensures printed { result.printed ≡ length (played P.reply lent.old record.old (groups_in N input.now)).text }
+    ensures accepted { is_ok result.answer ≡ (played P.reply lent.old record.old (groups_in N input.now)).accepted }
+    ensures record_after { record.new ≡ (played P.reply lent.old record.old (groups_in N input.now)).back }
+    ensures lent_after { lent.new ≡ (played P.reply lent.old record.old (groups_in N input.now)).lent }
+    ensures out_after { out.new ≡ sets out.old 0 (played P.reply lent.old record.old (groups_in N input.now)).text }
+{
+    let mut printed = 0;
+    let mut rest = input;
+    while let Some((group, behind)) = rest.split_first_chunk::<N>() {
+        let reply = P::event(record, lent, group);
+        printed += put_answer(out, printed, reply);
+        if let Err(refusal) = reply {
+            return Played {
+                printed,
+                answer: Err(refusal),
+            };
+        }
+        rest = behind;
+    }
+    Played {
+        printed,
+        answer: Ok(()),
+    }
+}
 
 // Moves the bytes behind the whole groups of the input's first `held` bytes, or of all if there are fewer, to its start, and
 // returns how many they are. Of groups of no bytes none is ever whole.
@@ -17,12 +100,9 @@ pub fn move_begun(input: &mut [u8], held: usize, size: usize) -> usize
     ensures value { result ≡ length (begun_in size (take held input.old)) }
     ensures input_after { input.new ≡ sets input.old 0 (begun_in size (take held input.old)) }
 {
-    let end = least(held, input.len());
-    let begun = remainder(end, size);
-    let whole = end - begun;
-    for from in whole..end {
-        poke(input, from - whole, peek(input, from));
-    }
+    let end = held.min(input.len());
+    let begun = if size == 0 { end } else { end % size };
+    input.copy_within(end - begun..end, 0);
     begun
 }
 
@@ -37,7 +117,8 @@ pub fn read_behind(stdin: Stdin, input: &mut [u8], begun: usize) -> usize
     }
 }
 
-// Reads until the bytes are full, the input ends or a read fails, and returns how many it put at their start.
+// Reads until the bytes are full, the input ends or a read fails, and returns how many it put at their start. `read_exact` says nothing
+// of how many came before the end.
 pub fn read_full(stdin: Stdin, bytes: &mut [u8]) -> usize
     ensures { result ≤ length bytes.old }
 {
@@ -56,94 +137,58 @@ pub fn read_full(stdin: Stdin, bytes: &mut [u8]) -> usize
 fn read_into(mut stdin: Stdin, bytes: &mut [u8]) -> usize
     ensures { result ≤ length bytes.old }
 {
-    match stdin.read(bytes) {
-        Ok(count) => count,
-        Err(_) => 0,
-    }
+    stdin.read(bytes).unwrap_or(0)
 }
 
 // A reading as a group has it, high byte and low byte.
 pub fn reading_of(high: u8, low: u8) -> u16
     ensures { result ≡ reading_of high low }
 {
-    256 * (high as u16) + low as u16
+    u16::from_be_bytes([high, low])
 }
 
-// Puts what an answer prints at a place of `out`, as much of it as there is room for, and returns its length.
-#[tactic(auto, unfolding(crate::specs::Console::answer_text, crate::specs::Console::bit_text, answer::specs::Answer::refusal_text))]
-pub fn put_answer(out: &mut [u8], at: usize, number: u8, line: bool) -> usize
-    ensures value { result ≡ length (answer_text number line) }
-    ensures out_after { out.new ≡ sets out.old at (answer_text number line) }
-{
-    if number == 0 {
-        put_bit(out, at, line);
-        2
-    } else {
-        put_refusal(out, at, number);
-        4
-    }
-}
-
+// Puts what a reply prints at a place of `out`, as much of it as there is room for, and returns its length.
 #[tactic(auto, unfolding(crate::specs::Console::bit_text))]
-fn put_bit(out: &mut [u8], at: usize, line: bool)
-    ensures { out.new ≡ sets out.old at (bit_text line) }
+pub fn put_answer(out: &mut [u8], at: usize, reply: Result<bool, Refusal>) -> usize
+    ensures value { result ≡ length (reply_text reply) }
+    ensures out_after { out.new ≡ sets out.old at (reply_text reply) }
 {
-    if at < out.len() && 1 < out.len() - at {
-        poke(out, at, digit_of(line));
-        poke(out, at + 1, b'\n');
-    } else {
-        poke(out, at, digit_of(line));
+    match reply {
+        Ok(line) => put(out, at, &[b'0' + u8::from(line), b'\n']),
+        Err(refusal) => put(out, at, &answer::refusal_text(u8::from(refusal))),
     }
 }
 
-fn digit_of(line: bool) -> u8
-    ensures { result ≡ 0x30 + digit line }
-{
-    if line { b'1' } else { b'0' }
-}
-
-#[tactic(auto, using(bits::specs::Stores::sets_past))]
-fn put_refusal(out: &mut [u8], at: usize, number: u8)
-    ensures { out.new ≡ sets out.old at (refusal_text number) }
+// Puts a text, as much of it as there is room for, and returns its length.
+#[tactic(auto, using(bits::specs::Stores::sets_past, crate::proofs::Console::Laws::put_more))]
+fn put(out: &mut [u8], at: usize, text: &[u8]) -> usize
+    ensures value { result ≡ length text.now }
+    ensures out_after { out.new ≡ sets out.old at text.now }
 {
     if at < out.len() {
-        let text = answer::refusal_text(number);
-        poke(out, at, text[0]);
-        poke(out, at + 1, text[1]);
-        poke(out, at + 2, text[2]);
-        poke(out, at + 3, text[3]);
+        for (i, byte) in text.iter().enumerate() {
+            poke(out, at + i, *byte);
+        }
     }
+    text.len()
 }
 
-// Prints the first `count` bytes, or all if there are fewer, and says whether the output took them. Nothing is always taken.
-pub fn print(stdout: Stdout, text: &[u8], count: usize) -> bool
-    ensures { take count text.now ≡ [] → result ≡ true }
+// Prints the text, and says whether the output took it. Nothing is always taken.
+pub fn print(stdout: Stdout, text: &[u8]) -> bool
+    ensures { text.now ≡ [] → result ≡ true }
 {
-    let end = least(count, text.len());
-    end == 0 || stdout.write_all(&text[..end]).is_ok()
+    text.is_empty() || stdout.write_all(text).is_ok()
 }
 
 // Prints a refusal, and says whether the answer is one.
-pub fn refused(stdout: Stdout, answer: Answer) -> bool
+pub fn refused(stdout: Stdout, answer: Result<(), Refusal>) -> bool
     ensures { result ≡ not (eqb (answer_number answer) 0) }
 {
-    let number = answer::number(answer);
-    if number == 0 {
-        return false;
+    match answer {
+        Ok(()) => false,
+        Err(refusal) => {
+            print(stdout, &answer::refusal_text(u8::from(refusal)));
+            true
+        }
     }
-    let text = answer::refusal_text(number);
-    print(stdout, &text, 4);
-    true
-}
-
-fn least(a: usize, b: usize) -> usize
-    ensures { result ≡ min a b }
-{
-    if a < b { a } else { b }
-}
-
-fn remainder(n: usize, size: usize) -> usize
-    ensures { result ≡ n % size }
-{
-    if size == 0 { n } else { n % size }
 }
