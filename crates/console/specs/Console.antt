@@ -41,10 +41,10 @@ bit_text line = (0x30 + digit line) ∷ 0x0A ∷ []
 unfoldable pub answer_text : ℕ → Bool → List ℕ
 answer_text number line = if eqb number 0 then bit_text line else refusal_text number
 
--- the same of a line bit, or of a refusal
-abbrev pub reply_text : Result Bool Refusal → List ℕ
+-- the same of a line bit, or of a refusal's number
+abbrev pub reply_text : Result Bool ℕ → List ℕ
 reply_text (Ok line) = bit_text line
-reply_text (Err refusal) = refusal_text (refusal_number refusal)
+reply_text (Err number) = refusal_text number
 
 -- ---- a session
 

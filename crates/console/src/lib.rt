@@ -78,13 +78,15 @@ fn play_groups<const N: usize, P: Plays<N>>(
     let mut printed = 0;
     let mut rest = input;
     while let Some((group, behind)) = rest.split_first_chunk::<N>() {
-        let reply = P::event(record, lent, group);
-        printed += put_answer(out, printed, reply);
-        if let Err(refusal) = reply {
-            return Played {
-                printed,
-                answer: Err(refusal),
-            };
+        match P::event(record, lent, group) {
+            Ok(line) => printed += put_answer(out, printed, Ok(line)),
+            Err(refusal) => {
+                printed += put_answer(out, printed, Err(u8::from(refusal)));
+                return Played {
+                    printed,
+                    answer: Err(refusal),
+                };
+            }
         }
         rest = behind;
     }
@@ -147,15 +149,16 @@ pub fn reading_of(high: u8, low: u8) -> u16
     u16::from_be_bytes([high, low])
 }
 
-// Puts what a reply prints at a place of `out`, as much of it as there is room for, and returns its length.
+// Puts what an answer prints at a place of `out`, as much of it as there is room for, and returns its length. An answer is the line bit,
+// or a refusal's number.
 #[tactic(auto, unfolding(crate::specs::Console::bit_text))]
-pub fn put_answer(out: &mut [u8], at: usize, reply: Result<bool, Refusal>) -> usize
-    ensures value { result ≡ length (reply_text reply) }
-    ensures out_after { out.new ≡ sets out.old at (reply_text reply) }
+pub fn put_answer(out: &mut [u8], at: usize, answer: Result<bool, u8>) -> usize
+    ensures value { result ≡ length (reply_text answer) }
+    ensures out_after { out.new ≡ sets out.old at (reply_text answer) }
 {
-    match reply {
+    match answer {
         Ok(line) => put(out, at, &[b'0' + u8::from(line), b'\n']),
-        Err(refusal) => put(out, at, &answer::refusal_text(u8::from(refusal))),
+        Err(number) => put(out, at, &answer::refusal_text(number)),
     }
 }
 

@@ -75,8 +75,13 @@ refused_text number line h =
     (λ yes. absurd (omega (arith, eqb-true number 0 yes)))
     (λ no. refl)
 
+-- what an event's answer prints
+abbrev pub text_of : Result Bool Refusal → List ℕ
+text_of (Ok line) = reply_text (Ok line)
+text_of (Err refusal) = reply_text (Err (refusal_number refusal))
+
 -- a line bit or a refusal that says the same prints the same
-pub answered_text : {A : Type 0} (r : Reply A) (answer : Result Bool Refusal) → Answers r answer → answer_text r.number r.line ≡ reply_text answer
+pub answered_text : {A : Type 0} (r : Reply A) (answer : Result Bool Refusal) → Answers r answer → answer_text r.number r.line ≡ text_of answer
 unfolding answer_text
 answered_text r (Ok line) e = rw (e.0, e.1) refl
 answered_text r (Err refusal) e = rw e (refused_text (refusal_number refusal) r.line (refusal_counts refusal))
@@ -87,10 +92,10 @@ unfolding bit_text
 bit_length line = refl
 
 -- an answer is four bytes at most
-pub answer_length : (answer : Result Bool Refusal) → length (reply_text answer) ≤ 4
+pub answer_length : (answer : Result Bool ℕ) → length (reply_text answer) ≤ 4
 unfolding bit_text refusal_text
 answer_length (Ok line) = omega arith
-answer_length (Err refusal) = omega arith
+answer_length (Err number) = omega arith
 
 -- ---- a session printed into a buffer
 
@@ -123,7 +128,7 @@ module _ {A : Type 0} (reply : List ℕ → A → List ℕ → Reply A) (size : 
   -- a group's answer is put, and then what follows it
   pub put_group : (lent : List ℕ) (back : A) (bytes out : List ℕ) (at : ℕ) → 0 < size → size ≤ length bytes →
       (answer : Result Bool Refusal) → Answers (reply lent back (take size bytes)) answer →
-      put_of (sets out at (reply_text answer)) (at + length (reply_text answer)) (after_one (drop size bytes) answer (reply lent back (take size bytes)))
+      put_of (sets out at (text_of answer)) (at + length (text_of answer)) (after_one (drop size bytes) answer (reply lent back (take size bytes)))
       ≡ put_of out at (played reply lent back (groups_in size bytes))
   unfolding after_one played
   put_group lent back bytes out at some whole (Ok line) e =
@@ -153,8 +158,8 @@ module _ {A : Type 0} (reply : List ℕ → A → List ℕ → Reply A) (size : 
     pub answers : Answers (reply lent back group) answer
     pub lent_after : lent' ≡ (reply lent back group).lent
     pub back_after : back' ≡ (reply lent back group).back
-    pub out_after : out' ≡ sets out printed (reply_text answer)
-    pub value : count ≡ length (reply_text answer)
+    pub out_after : out' ≡ sets out printed (text_of answer)
+    pub value : count ≡ length (text_of answer)
 
   -- its text is put, and then what follows it
   turned : 2 ≤ size → {lent out : List ℕ} {back : A} {printed : ℕ} {rest group : List ℕ} {answer : Result Bool Refusal} {lent' out' : List ℕ} {back' : A} {count : ℕ} {rest' : List ℕ} →
@@ -165,25 +170,24 @@ module _ {A : Type 0} (reply : List ℕ → A → List ℕ → Reply A) (size : 
       (put_group reply size lent back rest out printed (omega arith) (omega (arith, t.first.2)) answer (rw t.first.0 at t.answers) ∙ p.left)
 
   -- one more
-  pub playing_one : 2 ≤ size → {lent out : List ℕ} {back : A} {printed : ℕ} {rest group : List ℕ} {line : Bool} {answer : Result Bool Refusal} {lent' out' : List ℕ} {back' : A} {count : ℕ} {rest' : List ℕ} →
-      Playing lent out back printed rest → Turn lent out back printed rest group answer lent' out' back' count rest' → answer ≡ Ok line →
+  pub playing_one : 2 ≤ size → {lent out : List ℕ} {back : A} {printed : ℕ} {rest group : List ℕ} {line : Bool} {lent' out' : List ℕ} {back' : A} {count : ℕ} {rest' : List ℕ} →
+      Playing lent out back printed rest → Turn lent out back printed rest group (Ok line) lent' out' back' count rest' →
       Playing lent' out' back' (printed + count) rest'
   unfolding after_one
-  playing_one two {line = line} p t is =
+  playing_one two {line = line} p t =
       record {
-        short = omega (arith, p.short, t.first.2, bit_length line, rw is at t.value);
-        left = rw (t.lent_after, t.back_after) (rw is at (turned two p t));
+        short = omega (arith, p.short, t.first.2, bit_length line, t.value);
+        left = rw (t.lent_after, t.back_after) (turned two p t);
       }
 
   -- after a refusal
-  pub playing_refused : 2 ≤ size → {lent out : List ℕ} {back : A} {printed : ℕ} {rest group : List ℕ} {refusal : Refusal} {answer : Result Bool Refusal} {lent' out' : List ℕ} {back' : A} {count : ℕ} {rest' : List ℕ} →
-      Playing lent out back printed rest → Turn lent out back printed rest group answer lent' out' back' count rest' → answer ≡ Err refusal →
+  pub playing_refused : 2 ≤ size → {lent out : List ℕ} {back : A} {printed : ℕ} {rest group : List ℕ} {refusal : Refusal} {lent' out' : List ℕ} {back' : A} {count : ℕ} {rest' : List ℕ} →
+      Playing lent out back printed rest → Turn lent out back printed rest group (Err refusal) lent' out' back' count rest' →
       let s : Session A = played reply lent₀ back₀ (groups_in size input) in
       ◌≡◌ {A = Put A} record { back = back'; lent = lent'; printed = printed + count; accepted = false; out = out' }
       record { back = s.back; lent = s.lent; printed = length s.text; accepted = s.accepted; out = sets out₀ 0 s.text }
   unfolding put_of after_one
-  playing_refused two p t is =
-      rw (t.lent_after, t.back_after) (rw (zero-add, add-zero) at (rw is at (turned two p t)))
+  playing_refused two p t = rw (t.lent_after, t.back_after) (rw (zero-add, add-zero) at (turned two p t))
 
   -- after the last
   pub playing_all : {lent out : List ℕ} {back : A} {printed : ℕ} {rest : List ℕ} → Playing lent out back printed rest → length rest < size →
