@@ -48,7 +48,7 @@ fn read_text(text: &[u8], page: u16) -> Result<[u8; DATA], Refusal>
         return Err(Refusal::DumpForm);
     }
     let mut bytes = [0u8; 36];
-    // By index: after `iter_mut` a proof knows no byte.
+    // By index: it is a pair's place too, and after `iter_mut` a proof knows no byte.
     for i in 0..36 {
         let Pair::Byte(byte) = hexadecimal::pair_at(text, 2 * i) else {
             return Err(Refusal::DumpForm);
