@@ -48,12 +48,11 @@ fn read_text(text: &[u8], page: u16) -> Result<[u8; DATA], Refusal>
         return Err(Refusal::DumpForm);
     }
     let mut bytes = [0u8; 36];
-    // By index: it is a pair's place too, and after `iter_mut` a proof knows no byte.
-    for i in 0..36 {
+    for (i, place) in bytes.iter_mut().enumerate() {
         let Pair::Byte(byte) = hexadecimal::pair_at(text, 2 * i) else {
             return Err(Refusal::DumpForm);
         };
-        bytes[i] = byte;
+        *place = byte;
     }
     if text[72] != b'\n' {
         Err(Refusal::DumpForm)

@@ -41,7 +41,7 @@ loop-i-preserved c =
     let inside = c.loop-i-test.true in
     let byte : pair_at text (2 * turn.i) ≡ Byte c.in-Byte.byte = sym c.pair_at.ensures ∙ c.in-Byte.is in (
       rw length-set turn.invariant.0,
-      read_more text 36 turn.i inside turn.bytes turn.invariant.0 byte turn.invariant.1,
+      read_more text 36 turn.i inside turn.place-items turn.invariant.0 byte turn.invariant.1,
       read_byte text 36 turn.i inside byte ∙ turn.invariant.2,
     )
 
@@ -54,25 +54,25 @@ pub returns-then-page_in-page : goal.returns-then-page_in-page
 returns-then-page_in-page c =
     let a = c.args in
     let end = c.loop-i in
-    let read = read a.text.now end.bytes end.i c.loop-i-test.false end.invariant in
-    let whole = whole a.text.now end.bytes end.i c.loop-i-test.false end.invariant c.if-text-ne-LINE.false c.if-text-ne10.false in
+    let read = read a.text.now end.place-items end.i c.loop-i-test.false end.invariant in
+    let whole = whole a.text.now end.place-items end.i c.loop-i-test.false end.invariant c.if-text-ne-LINE.false c.if-text-ne10.false in
     sym (text_refused a.text.now a.page (check_page a.text.now a.page read whole (λ e. c.if-page_in-page.true (c.page_in.ensures ∙ e))))
 
 pub returns-then-not-crc_right : goal.returns-then-not-crc_right
 returns-then-not-crc_right c =
     let a = c.args in
     let end = c.loop-i in
-    let read = read a.text.now end.bytes end.i c.loop-i-test.false end.invariant in
-    let whole = whole a.text.now end.bytes end.i c.loop-i-test.false end.invariant c.if-text-ne-LINE.false c.if-text-ne10.false in
-    let wrong : crc_right end.bytes ≡ false = sym c.crc_right.ensures ∙ c.if-not-crc_right.true in
+    let read = read a.text.now end.place-items end.i c.loop-i-test.false end.invariant in
+    let whole = whole a.text.now end.place-items end.i c.loop-i-test.false end.invariant c.if-text-ne-LINE.false c.if-text-ne10.false in
+    let wrong : crc_right end.place-items ≡ false = sym c.crc_right.ensures ∙ c.if-not-crc_right.true in
     sym (text_refused a.text.now a.page (check_crc a.text.now a.page read whole (sym c.page_in.ensures ∙ c.if-page_in-page.false) wrong))
 
 pub returns-else-not-crc_right : goal.returns-else-not-crc_right
 returns-else-not-crc_right c =
     let a = c.args in
     let end = c.loop-i in
-    let read = read a.text.now end.bytes end.i c.loop-i-test.false end.invariant in
-    let whole = whole a.text.now end.bytes end.i c.loop-i-test.false end.invariant c.if-text-ne-LINE.false c.if-text-ne10.false in
-    let right : crc_right end.bytes ≡ true = sym c.crc_right.ensures ∙ c.if-not-crc_right.false in
+    let read = read a.text.now end.place-items end.i c.loop-i-test.false end.invariant in
+    let whole = whole a.text.now end.place-items end.i c.loop-i-test.false end.invariant c.if-text-ne-LINE.false c.if-text-ne10.false in
+    let right : crc_right end.place-items ≡ true = sym c.crc_right.ensures ∙ c.if-not-crc_right.false in
     let accepted = check_accepted a.text.now a.page read whole (sym c.page_in.ensures ∙ c.if-page_in-page.false) right in
     rw (c.data_in.ensures, ← read) (sym (text_accepted a.text.now a.page accepted))

@@ -7,6 +7,6 @@ use Rattle.dump.proofs.read_text.Given as goal
 
 abbrev pub invariant-loop-i : goal.invariant-loop-i
 invariant-loop-i l =
-    (length l.bytes ≡ 36)
-    × (take l.i l.bytes ≡ take l.i (bytes_in l.text))
+    (length l.place-items ≡ 36)
+    × (take l.i l.place-items ≡ take l.i (bytes_in l.text))
     × (all_digits l.text (2 * l.i) (36 - l.i) ≡ all_digits l.text 0 36)
