@@ -5,11 +5,9 @@
 ghost use Rattle.std.specs.Prelude.{◌≡◌};
 ghost use Rattle.record.specs.Record.{good_number, good_code, tag_in_range, fresh_tag, accepted, refused};
 
-use answer::Answer;
-use bus::{Bus, Held};
+use answer::Refusal;
 use exchange::Exchange;
 use mission::Counters;
-use select::Select;
 
 #[derive(Clone, Copy)]
 pub struct Tag {
@@ -19,10 +17,11 @@ pub struct Tag {
     pub exchange: Exchange,
 }
 
-// What a call answers: the number's case, the record, and the line bit.
+// What a call answers: accepted or a refusal, the record, and the line bit. A refusal has the other two as well: "A refusal returns bit 1,
+// the record as given" (document 01). So they stand beside the result, and not in its `Ok`.
 #[derive(Clone, Copy)]
 pub struct Answered {
-    pub answer: Answer,
+    pub answer: Result<(), Refusal>,
     pub tag: Tag,
     pub line: bool,
 }
@@ -31,20 +30,19 @@ pub struct Answered {
 pub fn fresh(number: u64, code: u8) -> Tag
     ensures { result ≡ fresh_tag number code }
 {
-    let counters = Counters {
-        reading: 0,
-        minute: 0,
-        wait: 0,
-    };
-    let exchange = exchange::new(number);
     Tag {
         code,
-        counters,
-        exchange,
+        counters: Counters {
+            reading: 0,
+            minute: 0,
+            wait: 0,
+        },
+        exchange: exchange::new(number),
     }
 }
 
 // Whether document 01's refusal 4 lets a registration number pass: family 41h, and a right CRC-8.
+#[tactic(auto, unfolding(crate::specs::Record::good_number))]
 pub fn good_number(number: u64) -> bool
     ensures { result ≡ good_number number }
 {
@@ -52,6 +50,7 @@ pub fn good_number(number: u64) -> bool
 }
 
 // Whether refusal 5 lets a configuration code pass.
+#[tactic(auto, unfolding(crate::specs::Record::good_code))]
 pub fn good_code(code: u8) -> bool
     ensures { result ≡ good_code code }
 {
@@ -59,31 +58,23 @@ pub fn good_code(code: u8) -> bool
 }
 
 // Whether a record keeps to its ranges (docs/RANGES.md).
+#[tactic(auto, unfolding(crate::specs::Record::tag_in_range))]
 pub fn in_range(tag: Tag) -> bool
     ensures { result ≡ tag_in_range tag }
 {
-    let exchange = tag.exchange;
-    let counters = tag.counters;
-    if !good_number(exchange.number) {
-        return false;
-    }
-    if !good_code(tag.code) {
-        return false;
-    }
-    if !mission::in_range(counters) {
-        return false;
-    }
-    exchange::in_range(exchange)
+    good_number(tag.exchange.number)
+        && good_code(tag.code)
+        && mission::in_range(tag.counters)
+        && exchange::in_range(tag.exchange)
 }
 
 // A refusal: the record as given, and bit 1.
-pub fn refuse(answer: Answer, tag: Tag) -> Answered
-    ensures { result ≡ refused answer tag }
+pub fn refuse(refusal: Refusal, tag: Tag) -> Answered
+    ensures { result ≡ refused refusal tag }
 {
-    let given = afresh(tag);
     Answered {
-        answer,
-        tag: given,
+        answer: Err(refusal),
+        tag,
         line: true,
     }
 }
@@ -92,64 +83,9 @@ pub fn refuse(answer: Answer, tag: Tag) -> Answered
 pub fn accept(tag: Tag, line: bool) -> Answered
     ensures { result ≡ accepted tag line }
 {
-    let tag = afresh(tag);
     Answered {
-        answer: Answer::Accepted,
+        answer: Ok(()),
         tag,
         line,
-    }
-}
-
-// The same record, written field by field. A struct that is handed on whole takes the bytes between its fields along, and through
-// every call of an event that is a quarter of its instructions (bench/README.md).
-fn afresh(tag: Tag) -> Tag
-    ensures { result ≡ tag }
-{
-    let counters = afresh_counters(tag.counters);
-    let x = tag.exchange;
-    let s = x.select;
-    let choosing = s.choosing;
-    let mode = s.mode;
-    let select = Select { choosing, mode };
-    let h = x.held;
-    let pad = h.pad;
-    let held = Held {
-        pad,
-        ta: h.ta,
-        ending: h.ending,
-        pf: h.pf,
-        aa: h.aa,
-    };
-    let b = x.bus;
-    let stage = b.stage;
-    let bus = Bus {
-        stage,
-        byte: b.byte,
-        at: b.at,
-        crc: b.crc,
-        address: b.address,
-        status: b.status,
-        field: b.field,
-    };
-    let exchange = Exchange {
-        number: x.number,
-        select,
-        held,
-        bus,
-    };
-    Tag {
-        code: tag.code,
-        counters,
-        exchange,
-    }
-}
-
-fn afresh_counters(c: Counters) -> Counters
-    ensures { result ≡ c }
-{
-    Counters {
-        reading: c.reading,
-        minute: c.minute,
-        wait: c.wait,
     }
 }
