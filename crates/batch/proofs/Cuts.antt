@@ -1,8 +1,9 @@
 -- A list that is cut in two is the whole list. Assumes nothing.
-use Rattle.std.specs.Prelude.{◌≡◌, refl, true, false, List, [], ◌∷◌, ◌++◌, ◌≢◌, ℕ, suc, ◌≤◌, length}
+use Rattle.std.specs.Prelude.{◌≡◌, refl, true, false, List, [], ◌∷◌, ◌++◌, ◌≢◌, ℕ, suc, ◌≤◌, length, Ok, Err}
 use Rattle.std.proofs.Common.{sym, ap, ◌∙◌, arith, length-append}
+use Rattle.answer.specs.Answer.{Answer}
 use Rattle.answer.specs.Answer.Laws.{not_accepted}
-use Rattle.answer.specs.declared.Answer.{Answer}
+use Rattle.answer.specs.declared.Refusal.{Refusal}
 use Rattle.bits.specs.Choose.{either}
 use Rattle.bits.specs.Stores.{sets_append}
 use Rattle.record.specs.declared.Tag.{Tag}
@@ -17,8 +18,8 @@ use Rattle.batch.specs.Batch.Cuts.{joined}
 
 -- what holds of no word, of a refused one and, if it holds of the words behind it, of an event, holds of every list
 pub course_cases : (P : List ℕ → Tag → List ℕ → Course → Type 0) →
-    ((image : List ℕ) (tag : Tag) → P image tag [] (over Answer.Accepted image tag)) →
-    ((image : List ℕ) (tag : Tag) (word : ℕ) (words : List ℕ) → is_event word ≡ false → P image tag (word ∷ words) (over Answer.EventCode image tag)) →
+    ((image : List ℕ) (tag : Tag) → P image tag [] (over (Ok tt) image tag)) →
+    ((image : List ℕ) (tag : Tag) (word : ℕ) (words : List ℕ) → is_event word ≡ false → P image tag (word ∷ words) (over (Err Refusal.EventCode) image tag)) →
     ((image : List ℕ) (tag : Tag) (word : ℕ) (words : List ℕ) → is_event word ≡ true →
     let o : Outcome = step image tag (code_of word) (reading_of word) in
     P o.image o.answered.tag words (course_of o.image o.answered.tag words) →
@@ -51,13 +52,13 @@ course_short =
     (λ image tag word words e rest. omega (arith, rest))
 
 -- a list that ended at a refused word is not accepted
-refuses : Answer.EventCode ≢ Answer.Accepted
-refuses = not_accepted Answer.EventCode (omega arith)
+refuses : ◌≢◌ {A = Answer} (Err Refusal.EventCode) (Ok tt)
+refuses = not_accepted (Err Refusal.EventCode) (omega arith)
 
-course_whole : (image : List ℕ) (tag : Tag) (words : List ℕ) → (course_of image tag words).answer ≡ Answer.Accepted →
+course_whole : (image : List ℕ) (tag : Tag) (words : List ℕ) → (course_of image tag words).answer ≡ Ok tt →
     length (course_of image tag words).line ≡ length words
 course_whole =
-    course_cases (λ image tag words c. c.answer ≡ Answer.Accepted → length c.line ≡ length words) (λ image tag e. refl)
+    course_cases (λ image tag words c. c.answer ≡ Ok tt → length c.line ≡ length words) (λ image tag e. refl)
     (λ image tag word words e accepted. absurd (refuses accepted))
     (λ image tag word words e rest accepted. ap suc (rest accepted))
 
@@ -66,13 +67,13 @@ abbrev follows : Course → Course → Course
 follows first rest = record { line = first.line ++ rest.line; tag = rest.tag; image = rest.image; answer = rest.answer }
 
 -- the words behind a list that is done whole go on where it ended
-course_append : (rest : List ℕ) (image : List ℕ) (tag : Tag) (words : List ℕ) → (course_of image tag words).answer ≡ Answer.Accepted →
+course_append : (rest : List ℕ) (image : List ℕ) (tag : Tag) (words : List ℕ) → (course_of image tag words).answer ≡ Ok tt →
     let first = course_of image tag words in
     course_of image tag (words ++ rest) ≡ follows first (course_of first.image first.tag rest)
 unfolding course_of
 course_append rest =
     course_cases
-    (λ image tag words c. c.answer ≡ Answer.Accepted → course_of image tag (words ++ rest) ≡ follows c (course_of c.image c.tag rest))
+    (λ image tag words c. c.answer ≡ Ok tt → course_of image tag (words ++ rest) ≡ follows c (course_of c.image c.tag rest))
     (λ image tag e. refl)
     (λ image tag word words e accepted. absurd (refuses accepted))
     (λ image tag word words is on accepted. rw (course_of, is) (ap (replying (step image tag (code_of word) (reading_of word)).answered.line) (on accepted)))
@@ -80,15 +81,15 @@ course_append rest =
 -- ---- a list
 
 -- a list that is accepted passed the three checks, and no word of it was refused
-accepted_list : (image : List ℕ) (tag : Tag) (words replies : List ℕ) → (listed image tag words replies).batch.answer ≡ Answer.Accepted →
-    (length words ≤ length replies) × (length image ≡ 8832) × (tag_in_range tag ≡ true) × ((course_of image tag words).answer ≡ Answer.Accepted)
+accepted_list : (image : List ℕ) (tag : Tag) (words replies : List ℕ) → (listed image tag words replies).batch.answer ≡ Ok tt →
+    (length words ≤ length replies) × (length image ≡ 8832) × (tag_in_range tag ≡ true) × ((course_of image tag words).answer ≡ Ok tt)
 accepted_list image tag words replies =
     list_cases image tag words replies
-    (λ l. l.batch.answer ≡ Answer.Accepted → (length words ≤ length replies) × (length image ≡ 8832) × (tag_in_range tag ≡ true)
-    × ((course_of image tag words).answer ≡ Answer.Accepted))
-    (λ few e. absurd (not_accepted Answer.Replies (omega arith) e))
-    (λ room size e. absurd (not_accepted Answer.ImageLength (omega arith) e))
-    (λ room whole broken e. absurd (not_accepted Answer.RecordRange (omega arith) e))
+    (λ l. l.batch.answer ≡ Ok tt → (length words ≤ length replies) × (length image ≡ 8832) × (tag_in_range tag ≡ true)
+    × ((course_of image tag words).answer ≡ Ok tt))
+    (λ few e. absurd (not_accepted (Err Refusal.Replies) (omega arith) e))
+    (λ room size e. absurd (not_accepted (Err Refusal.ImageLength) (omega arith) e))
+    (λ room whole broken e. absurd (not_accepted (Err Refusal.RecordRange) (omega arith) e))
     (λ room whole in_range e. (room, whole, in_range, e))
 
 replied_append : (replies left : List ℕ) (c d : Course) → length c.line ≡ length replies → length d.line ≤ length left →
@@ -99,7 +100,7 @@ replied_append replies left c d full room =
 -- a list that is accepted, with as many reply bytes as words, and then another that has room for its replies, are one list
 pub list_append : (image : List ℕ) (tag : Tag) (words more replies left : List ℕ) →
     let first = listed image tag words replies in
-    first.batch.answer ≡ Answer.Accepted → length replies ≡ length words → length more ≤ length left →
+    first.batch.answer ≡ Ok tt → length replies ≡ length words → length more ≤ length left →
     listed image tag (words ++ more) (replies ++ left) ≡ joined first (listed first.image first.batch.tag more left)
 list_append image tag words more replies left accepted exact room =
     let a = accepted_list image tag words replies accepted in

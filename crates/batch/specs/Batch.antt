@@ -1,7 +1,8 @@
 -- A list of events in one call (request #101, "Many events in one call"), by `step` alone. Assumes nothing.
-use Rattle.std.specs.Prelude.{Bool, not, ◌&&◌, ◌||◌, List, [], ◌∷◌, ℕ, ◌-◌, eqb, leb, ltb, length, if◌then◌else◌}
+use Rattle.std.specs.Prelude.{Bool, not, ◌&&◌, ◌||◌, List, [], ◌∷◌, ℕ, ◌-◌, eqb, leb, ltb, length, if◌then◌else◌, Ok, Err}
 use Rattle.std.proofs.lemmas.List.Edits.{sets}
-use Rattle.answer.specs.declared.Answer.{Answer}
+use Rattle.answer.specs.Answer.{Answer}
+use Rattle.answer.specs.declared.Refusal.{Refusal}
 use Rattle.bits.specs.Bits.{digit}
 use Rattle.record.specs.declared.Tag.{Tag}
 use Rattle.record.specs.Record.{Outcome, tag_in_range}
@@ -46,11 +47,11 @@ replying bit rest = record { line = digit bit ∷ rest.line; tag = rest.tag; ima
 
 -- "It stops at the first refused word; the words before it count as done"; "The result must equal the same events one by one"
 unfoldable pub course_of : List ℕ → Tag → List ℕ → Course
-course_of image tag [] = over Answer.Accepted image tag
+course_of image tag [] = over (Ok tt) image tag
 course_of image tag (word ∷ words) =
     let o : Outcome = step image tag (code_of word) (reading_of word) in
     if is_event word then replying o.answered.line (course_of o.image o.answered.tag words)
-    else over Answer.EventCode image tag
+    else over (Err Refusal.EventCode) image tag
 
 -- ---- the call
 
@@ -77,7 +78,7 @@ replied replies c =
 -- also for an empty list"
 unfoldable pub listed : List ℕ → Tag → List ℕ → List ℕ → Listed
 listed image tag words replies =
-    if ltb (length replies) (length words) then undone Answer.Replies image tag replies
-    else if not (eqb (length image) 8832) then undone Answer.ImageLength image tag replies
-    else if not (tag_in_range tag) then undone Answer.RecordRange image tag replies
+    if ltb (length replies) (length words) then undone (Err Refusal.Replies) image tag replies
+    else if not (eqb (length image) 8832) then undone (Err Refusal.ImageLength) image tag replies
+    else if not (tag_in_range tag) then undone (Err Refusal.RecordRange) image tag replies
     else replied replies (course_of image tag words)

@@ -1,9 +1,7 @@
 -- `batch::events` meets its contract. With the words from `i` on still to be done and their replies put behind those that are there,
--- all is as promised; image and record stay right at every word, so no word is asked again. The measure is the words left.
--- Assumes nothing.
+-- all is as promised; image and record stay right at every word, so no word is asked again. Assumes nothing.
 use mathlib.Core.Bool.{true}
 use mathlib.Core.Path.{◌≡◌}
-use Prim.Native.Nat.{◌-◌, ◌≤◌}
 use lib.ListN.{length, drop}
 use Rattle.record.specs.Record.{tag_in_range}
 use Rattle.batch.specs.Batch.{course_of}
@@ -12,11 +10,6 @@ use Rattle.batch.proofs.events.Given as goal
 
 abbrev pub invariant-loop-i : goal.invariant-loop-i
 invariant-loop-i l =
-    (l.i ≤ length l.words)
-    × (length l.image ≡ 8832)
+    (length l.image ≡ 8832)
     × (tag_in_range l.now ≡ true)
-    × (length l.replies ≡ length l.initial.replies)
     × (replied_from l.replies l.i (course_of l.image l.now (drop l.i l.words)) ≡ replied_from l.initial.replies 0 (course_of l.initial.image l.initial.now l.words))
-
-abbrev pub decreases-loop-i : goal.decreases-loop-i
-decreases-loop-i l = length l.words - l.i

@@ -1,5 +1,5 @@
 -- A list, word by word: what a word does where image and record are right, and what the words from a place on leave. Assumes nothing.
-use Rattle.std.specs.Prelude.{◌≡◌, Bool, ◌&&◌, ◌||◌, List, ◌≢◌, ℕ, zero, suc, ◌+◌, ◌-◌, ◌%◌, ◌≤◌, ◌<◌, leb, length, get_or, set, drop, if◌then◌else◌}
+use Rattle.std.specs.Prelude.{◌≡◌, Bool, ◌&&◌, ◌||◌, List, ◌≢◌, ℕ, zero, suc, ◌+◌, ◌-◌, ◌%◌, ◌≤◌, ◌<◌, leb, length, get_or, set, drop, if◌then◌else◌, Ok, Err}
 use Rattle.std.proofs.Math.Path.{refl}
 use Rattle.std.proofs.Common.{◌∙◌, zero-add, add-suc, suc-add, add-one, arith, drop_of_length-le, drop-cons}
 use Rattle.std.proofs.Math.Bool.{true, false, not}
@@ -7,7 +7,7 @@ use Rattle.std.proofs.lemmas.Bool.{false≢true}
 use borrow.Author.Tests.{leb-true, lt-leb, ltb-true, ltb-false, lt-ltb, le-ltb, eqb-true, eqb-false, eq-eqb, ne_eqb}
 use Rattle.std.proofs.Math.Dec.{eqb, ltb}
 use Rattle.std.proofs.lemmas.List.Edits.{sets}
-use Rattle.answer.specs.declared.Answer.{Answer}
+use Rattle.answer.specs.declared.Refusal.{Refusal}
 use Rattle.bits.specs.Bits.{digit}
 use Rattle.event.specs.Event.{slotted, reset_tag, short_tag, tick_tag}
 use Rattle.record.specs.declared.Answered.{Answered}
@@ -77,12 +77,12 @@ module _ (image : List ℕ) (tag : Tag) (words : List ℕ) (i : ℕ) where
 
   -- it is none, and the list ends
   pub course_refused : i < length words → is_event (get_or words i 0) ≡ false →
-      course_of image tag (drop i words) ≡ over Answer.EventCode image tag
+      course_of image tag (drop i words) ≡ over (Err Refusal.EventCode) image tag
   unfolding course_of
   course_refused h e = rw (drop-cons words i 0 h, course_of, e)
 
   -- there are no more
-  pub course_over : length words ≤ i → course_of image tag (drop i words) ≡ over Answer.Accepted image tag
+  pub course_over : length words ≤ i → course_of image tag (drop i words) ≡ over (Ok tt) image tag
   unfolding course_of
   course_over h = rw (drop_of_length-le words h)
 
@@ -124,9 +124,9 @@ list_on image tag words replies i h e whole in_range answered a image' m reply r
 module _ (image : List ℕ) (tag : Tag) (words replies : List ℕ) where
   -- what holds of the three refusals and of the words done one by one holds of every list
   pub list_cases : (P : Listed → Type 0) →
-      (length replies < length words → P (undone Answer.Replies image tag replies)) →
-      (length words ≤ length replies → length image ≢ 8832 → P (undone Answer.ImageLength image tag replies)) →
-      (length words ≤ length replies → length image ≡ 8832 → tag_in_range tag ≡ false → P (undone Answer.RecordRange image tag replies)) →
+      (length replies < length words → P (undone (Err Refusal.Replies) image tag replies)) →
+      (length words ≤ length replies → length image ≢ 8832 → P (undone (Err Refusal.ImageLength) image tag replies)) →
+      (length words ≤ length replies → length image ≡ 8832 → tag_in_range tag ≡ false → P (undone (Err Refusal.RecordRange) image tag replies)) →
       (length words ≤ length replies → length image ≡ 8832 → tag_in_range tag ≡ true → P (replied replies (course_of image tag words))) →
       P (listed image tag words replies)
   unfolding listed
@@ -135,26 +135,26 @@ module _ (image : List ℕ) (tag : Tag) (words replies : List ℕ) where
     where
       by : (short whole in_range : Bool) →
           ltb (length replies) (length words) ≡ short → eqb (length image) 8832 ≡ whole → tag_in_range tag ≡ in_range →
-          P (if short then undone Answer.Replies image tag replies
-          else if not whole then undone Answer.ImageLength image tag replies
-          else if not in_range then undone Answer.RecordRange image tag replies
+          P (if short then undone (Err Refusal.Replies) image tag replies
+          else if not whole then undone (Err Refusal.ImageLength) image tag replies
+          else if not in_range then undone (Err Refusal.RecordRange) image tag replies
           else replied replies (course_of image tag words))
       by true whole in_range p q r = few (ltb-true (length replies) (length words) p)
       by false false in_range p q r = size (ltb-false (length replies) (length words) p) (eqb-false (length image) 8832 q)
       by false true false p q r = broken (ltb-false (length replies) (length words) p) (eqb-true (length image) 8832 q) r
       by false true true p q r = taken (ltb-false (length replies) (length words) p) (eqb-true (length image) 8832 q) r
 
-  pub list_few : length replies < length words → listed image tag words replies ≡ undone Answer.Replies image tag replies
+  pub list_few : length replies < length words → listed image tag words replies ≡ undone (Err Refusal.Replies) image tag replies
   unfolding listed
   list_few few = rw (lt-ltb (length replies) (length words) few)
 
   pub list_length : length words ≤ length replies → length image ≢ 8832 →
-      listed image tag words replies ≡ undone Answer.ImageLength image tag replies
+      listed image tag words replies ≡ undone (Err Refusal.ImageLength) image tag replies
   unfolding listed
   list_length room size = rw (le-ltb (length replies) (length words) room, ne_eqb (length image) 8832 size)
 
   pub list_ranges : length words ≤ length replies → length image ≡ 8832 → tag_in_range tag ≡ false →
-      listed image tag words replies ≡ undone Answer.RecordRange image tag replies
+      listed image tag words replies ≡ undone (Err Refusal.RecordRange) image tag replies
   unfolding listed
   list_ranges room whole broken =
       rw (le-ltb (length replies) (length words) room, eq-eqb (length image) 8832 whole, broken)
