@@ -1,9 +1,9 @@
 -- The calls of the library for C, by `new_tag`, `step`, the list of request #101 and the dock's listing, through the bytes of a record:
 -- what each answers, and what it leaves in the bytes and places that it is lent. Assumes nothing.
-use Rattle.std.specs.Prelude.{true, not, List, [], ◌∷◌, ◌++◌, ◌≡◌, ℕ, ◌≤◌, eqb, ltb, ℤ, length, if◌then◌else◌}
+use Rattle.std.specs.Prelude.{true, not, List, [], ◌∷◌, ◌++◌, ◌≡◌, ℕ, ◌≤◌, eqb, ltb, ℤ, length, if◌then◌else◌, Err}
 use Rattle.std.proofs.lemmas.List.Edits.{sets}
-use Rattle.answer.specs.Answer.{answer_number}
-use Rattle.answer.specs.declared.Answer.{Answer}
+use Rattle.answer.specs.declared.Refusal.{Refusal}
+use Rattle.answer.specs.Answer.{Answer, answer_number}
 use Rattle.batch.specs.Batch as batch
 use Rattle.bits.specs.Bits.{digit}
 use Rattle.dock.specs.declared.Listing.{Listing}
@@ -33,8 +33,8 @@ not_made answer image lent = record { number = answer_number answer; image = ima
 unfoldable pub new_call : List ℕ → List ℕ → ℕ → ℕ → New
 new_call image lent number code =
     if eqb (length lent) 80 then made (new_tag image number code)
-    else if not (eqb (length image) 8832) then not_made Answer.ImageLength image lent
-    else not_made Answer.RecordRange image lent
+    else if not (eqb (length image) 8832) then not_made (Err Refusal.ImageLength) image lent
+    else not_made (Err Refusal.RecordRange) image lent
 
 -- the record that it leaves fits its bytes
 abbrev pub NewFits : List ℕ → List ℕ → ℕ → ℕ → Type 0
@@ -64,8 +64,8 @@ stepped o =
 -- "A record of another length, version or with an encoding that no record has is 6, in 6's place of the order"
 unfoldable pub event_call : List ℕ → List ℕ → ℕ → ℕ → Event
 event_call image lent code reading =
-    if not (eqb (length image) 8832) then no_event Answer.ImageLength image lent
-    else if not (is_packed lent) then no_event Answer.RecordRange image lent
+    if not (eqb (length image) 8832) then no_event Refusal.ImageLength image lent
+    else if not (is_packed lent) then no_event Refusal.RecordRange image lent
     else stepped (step image (unpacked lent) code reading)
 
 -- the record that it leaves fits its bytes
@@ -98,9 +98,9 @@ done l =
 -- "17, checked before all others; then 3 and 6"; "answer 1 of `bagtag_events` keeps the words done before it"
 unfoldable pub events_call : List ℕ → List ℕ → List ℕ → List ℕ → Events
 events_call image lent words replies =
-    if ltb (length replies) (length words) then no_events Answer.Replies image lent replies
-    else if not (eqb (length image) 8832) then no_events Answer.ImageLength image lent replies
-    else if not (is_packed lent) then no_events Answer.RecordRange image lent replies
+    if ltb (length replies) (length words) then no_events (Err Refusal.Replies) image lent replies
+    else if not (eqb (length image) 8832) then no_events (Err Refusal.ImageLength) image lent replies
+    else if not (is_packed lent) then no_events (Err Refusal.RecordRange) image lent replies
     else done (batch.listed image (unpacked lent) words replies)
 
 -- the record that it leaves fits its bytes
@@ -137,7 +137,7 @@ pub record HeadFits (listing : Listing) : Type 0 where
 -- the number of a dump where room is short, whether or not there are places enough: "12 if it is too short"
 unfoldable pub room_number : List ℕ → ℕ → ℕ
 room_number dump places =
-    if is_accepted (answer_of dump places) then answer_number Answer.Places else answer_number (answer_of dump places)
+    if is_accepted (answer_of dump places) then answer_number (Err Refusal.Places) else answer_number (answer_of dump places)
 
 unfoldable pub list_call : List ℕ → List ℤ → List ℕ → Listed
 list_call dump places head =

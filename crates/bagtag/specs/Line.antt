@@ -1,8 +1,8 @@
 -- The calls of the library for C that go to several tags on one line (request #106), by `new_line` and `line_step`, through the bytes of
 -- their records: what each answers, and what it leaves in the bytes that it is lent. Assumes nothing.
-use Rattle.std.specs.Prelude.{true, false, ◌||◌, List, ◌≡◌, ℕ, eqb, length, if◌then◌else◌}
+use Rattle.std.specs.Prelude.{true, false, ◌||◌, List, ◌≡◌, ℕ, eqb, length, if◌then◌else◌, Err}
 use Rattle.answer.specs.Answer.{answer_number}
-use Rattle.answer.specs.declared.Answer.{Answer}
+use Rattle.answer.specs.declared.Refusal.{Refusal}
 use Rattle.bits.specs.Bits.{digit}
 use Rattle.board.specs.declared.Board.{Board}
 use Rattle.board.specs.Board.{Left, judged_by, line_step, new_judged, new_line}
@@ -26,7 +26,7 @@ line_made count left =
 
 -- "14, 3, 13, then place by place 4, 5": 6 for the records' length stands before 4, as it does for a single tag
 unfoldable pub short_number : ℕ → ℕ
-short_number number = if eqb number 0 || (eqb number 4 || eqb number 5) then answer_number Answer.RecordRange else number
+short_number number = if eqb number 0 || (eqb number 4 || eqb number 5) then answer_number (Err Refusal.RecordRange) else number
 
 unfoldable pub new_line_call : List ℕ → List ℕ → List ℕ → List ℕ → NewLine
 new_line_call block records numbers codes =

@@ -1,7 +1,7 @@
 -- Several tags on one line (request #106): a new line, and one event. Assumes nothing.
-use Rattle.std.specs.Prelude.{Bool, true, not, ◌&&◌, ◌||◌, List, ◌++◌, ℕ, zero, suc, ◌+◌, ◌*◌, eqb, leb, ltb, length, get_or, set, take, drop, replicate, if◌then◌else◌}
-use Rattle.answer.specs.Answer.{answer_number}
-use Rattle.answer.specs.declared.Answer.{Answer}
+use Rattle.std.specs.Prelude.{Bool, true, not, ◌&&◌, ◌||◌, List, ◌++◌, ℕ, zero, suc, ◌+◌, ◌*◌, eqb, leb, ltb, length, get_or, set, take, drop, replicate, if◌then◌else◌, Ok, Err}
+use Rattle.answer.specs.declared.Refusal.{Refusal}
+use Rattle.answer.specs.Answer.{Answer, answer_number}
 use Rattle.bits.specs.Each.{each, each_pair}
 use Rattle.record.specs.declared.Tag.{Tag}
 use Rattle.record.specs.Record.{Outcome, good_number, good_code, tag_in_range, fresh_tag}
@@ -54,13 +54,13 @@ same_number count number = not (each_pair count (λ i j. eqb i j || not (eqb (nu
 -- with code 3 alone". `same` and `good` are whether two numbers are the same and all records keep to their ranges
 unfoldable pub judged_by : ℕ → ℕ → Bool → Bool → ℕ → ℕ → ℕ → Answer
 judged_by count size same good code place reading =
-    if not (is_count count) || names_none count code place then Answer.TagPlace
-    else if not (eqb size (count * 8832)) then Answer.ImageLength
-    else if same then Answer.SameNumber
-    else if not good then Answer.RecordRange
-    else if ltb 4 code then Answer.EventCode
-    else if is_high code reading then Answer.Reading
-    else Answer.Accepted
+    if not (is_count count) || names_none count code place then Err Refusal.TagPlace
+    else if not (eqb size (count * 8832)) then Err Refusal.ImageLength
+    else if same then Err Refusal.SameNumber
+    else if not good then Err Refusal.RecordRange
+    else if ltb 4 code then Err Refusal.EventCode
+    else if is_high code reading then Err Refusal.Reading
+    else Ok tt
 
 -- "Records from the count on .. are not looked at"; "compares the numbers as they are"
 unfoldable pub judged : ℕ → Board → ℕ → ℕ → ℕ → Answer
@@ -109,7 +109,7 @@ unfoldable pub taken : Going → ℕ → ℕ → ℕ → Going
 taken l code place reading = if eqb code 3 then reached 3 reading place l else across (reached code 0) 0 l.board.count l
 
 abbrev pub accepted : Going → Left
-accepted l = record { shown = record { board = l.board; answer = Answer.Accepted; line = l.line }; block = l.block }
+accepted l = record { shown = record { board = l.board; answer = Ok tt; line = l.line }; block = l.block }
 
 unfoldable pub line_step : List ℕ → Board → ℕ → ℕ → ℕ → Left
 line_step block board code place reading =
@@ -120,19 +120,19 @@ line_step block board code place reading =
 
 -- "place by place 4, 5": so many are left, from a place on
 unfoldable pub new_fault : List ℕ → List ℕ → ℕ → ℕ → Answer
-new_fault numbers codes place zero = Answer.Accepted
+new_fault numbers codes place zero = Ok tt
 new_fault numbers codes place (suc left) =
-    if not (good_number (get_or numbers place 0)) then Answer.RomNumber
-    else if not (good_code (get_or codes place 0)) then Answer.Configuration
+    if not (good_number (get_or numbers place 0)) then Err Refusal.RomNumber
+    else if not (good_code (get_or codes place 0)) then Err Refusal.Configuration
     else new_fault numbers codes (place + 1) left
 
 -- "14, 3, 13, then place by place 4, 5"; as many codes as numbers, else 14
 unfoldable pub new_judged : ℕ → List ℕ → List ℕ → Answer
 new_judged size numbers codes =
     let count : ℕ = length numbers in
-    if not (is_count count && eqb (length codes) count) then Answer.TagPlace
-    else if not (eqb size (count * 8832)) then Answer.ImageLength
-    else if same_number count (λ i. get_or numbers i 0) then Answer.SameNumber
+    if not (is_count count && eqb (length codes) count) then Err Refusal.TagPlace
+    else if not (eqb size (count * 8832)) then Err Refusal.ImageLength
+    else if same_number count (λ i. get_or numbers i 0) then Err Refusal.SameNumber
     else new_fault numbers codes 0 count
 
 -- "Records past the count, and all of a refused line, are those of all zeros"; "count 0"

@@ -1,13 +1,13 @@
 -- Laws of the library's calls: the number where room is short does not hang on the places, and words are stored as the head has them.
 -- Assumes nothing.
-use Rattle.std.specs.Prelude.{◌≡◌, refl, Bool, true, false, List, [], ◌∷◌, ◌≢◌, ℕ, zero, suc, ◌/◌, ◌%◌, ◌≤◌, ◌<◌, eqb, ltb, ℤ, length, set, if◌then◌else◌}
+use Rattle.std.specs.Prelude.{◌≡◌, refl, Bool, true, false, List, [], ◌∷◌, ◌≢◌, ℕ, zero, suc, ◌/◌, ◌%◌, ◌≤◌, ◌<◌, eqb, ltb, ℤ, length, set, if◌then◌else◌, Ok, Err}
 use Rattle.std.proofs.Common.{sym, ◌∙◌, arith}
 use Rattle.std.proofs.Math.Logic.{dite}
 use Rattle.std.proofs.Math.Decide.{ℕ_discrete}
 use borrow.Author.Tests.{eq-eqb, ne_eqb, lt-ltb, le-ltb}
 use Rattle.std.proofs.lemmas.List.Edits.{sets}
-use Rattle.answer.specs.Answer.{answer_number}
-use Rattle.answer.specs.declared.Answer.{Answer}
+use Rattle.answer.specs.declared.Refusal.{Refusal}
+use Rattle.answer.specs.Answer.{Answer, answer_number}
 use Rattle.batch.specs.Batch as batch
 use Rattle.bits.specs.Stores.{sets_join, sets_whole}
 use Rattle.dock.specs.declared.Listing.{Listing}
@@ -32,22 +32,22 @@ unfolding new_call
 new_made image lent number code size = rw (eq-eqb (length lent) 80 size)
 
 pub new_image_lem : (image lent : List ℕ) (number code : ℕ) → length lent ≢ 80 → length image ≢ 8832 →
-    new_call image lent number code ≡ not_made Answer.ImageLength image lent
+    new_call image lent number code ≡ not_made (Err Refusal.ImageLength) image lent
 unfolding new_call
 new_image_lem image lent number code size whole = rw (ne_eqb (length lent) 80 size, ne_eqb (length image) 8832 whole)
 
 pub new_lent : (image lent : List ℕ) (number code : ℕ) → length lent ≢ 80 → length image ≡ 8832 →
-    new_call image lent number code ≡ not_made Answer.RecordRange image lent
+    new_call image lent number code ≡ not_made (Err Refusal.RecordRange) image lent
 unfolding new_call
 new_lent image lent number code size whole = rw (ne_eqb (length lent) 80 size, eq-eqb (length image) 8832 whole)
 
 pub event_image : (image lent : List ℕ) (code reading : ℕ) → length image ≢ 8832 →
-    event_call image lent code reading ≡ no_event Answer.ImageLength image lent
+    event_call image lent code reading ≡ no_event Refusal.ImageLength image lent
 unfolding event_call
 event_image image lent code reading whole = rw (ne_eqb (length image) 8832 whole)
 
 pub event_lent : (image lent : List ℕ) (code reading : ℕ) → length image ≡ 8832 → is_packed lent ≡ false →
-    event_call image lent code reading ≡ no_event Answer.RecordRange image lent
+    event_call image lent code reading ≡ no_event Refusal.RecordRange image lent
 unfolding event_call
 event_lent image lent code reading whole bad = rw (eq-eqb (length image) 8832 whole, bad)
 
@@ -57,17 +57,17 @@ unfolding event_call
 event_step image lent code reading whole good = rw (eq-eqb (length image) 8832 whole, good)
 
 pub events_room : (image lent words replies : List ℕ) → length replies < length words →
-    events_call image lent words replies ≡ no_events Answer.Replies image lent replies
+    events_call image lent words replies ≡ no_events (Err Refusal.Replies) image lent replies
 unfolding events_call
 events_room image lent words replies few = rw (lt-ltb (length replies) (length words) few)
 
 module _ (image lent words replies : List ℕ) (room : length words ≤ length replies) where
-  pub events_image : length image ≢ 8832 → events_call image lent words replies ≡ no_events Answer.ImageLength image lent replies
+  pub events_image : length image ≢ 8832 → events_call image lent words replies ≡ no_events (Err Refusal.ImageLength) image lent replies
   unfolding events_call
   events_image whole = rw (le-ltb (length replies) (length words) room, ne_eqb (length image) 8832 whole)
 
   pub events_lent : length image ≡ 8832 → is_packed lent ≡ false →
-      events_call image lent words replies ≡ no_events Answer.RecordRange image lent replies
+      events_call image lent words replies ≡ no_events (Err Refusal.RecordRange) image lent replies
   unfolding events_call
   events_lent whole bad = rw (le-ltb (length replies) (length words) room, eq-eqb (length image) 8832 whole, bad)
 
@@ -88,13 +88,13 @@ room_any dump p q = by (eqb (answer_number (check_of dump)) 0)
   where
     chosen : (cleared counts few : Bool) → Answer
     chosen cleared counts few =
-        if cleared then Answer.Cleared
-        else if counts then Answer.Counts
-        else if few then Answer.Places
-        else Answer.Accepted
+        if cleared then Err Refusal.Cleared
+        else if counts then Err Refusal.Counts
+        else if few then Err Refusal.Places
+        else Ok tt
 
     short : Answer → ℕ
-    short answer = if eqb (answer_number answer) 0 then answer_number Answer.Places else answer_number answer
+    short answer = if eqb (answer_number answer) 0 then answer_number (Err Refusal.Places) else answer_number answer
 
     same : (cleared counts few none : Bool) → short (chosen cleared counts few) ≡ short (chosen cleared counts none)
     same true counts few none = refl
@@ -108,7 +108,7 @@ room_any dump p q = by (eqb (answer_number (check_of dump)) 0)
     by true = same (memclr (dumped_at dump)) (cannot_be (dumped_at dump)) (ltb p (held (dumped_at dump))) (ltb q (held (dumped_at dump)))
     by false = refl
 
-pub room_accepted : (dump : List ℕ) (p : ℕ) → answer_number (answer_of dump p) ≡ 0 → room_number dump p ≡ answer_number Answer.Places
+pub room_accepted : (dump : List ℕ) (p : ℕ) → answer_number (answer_of dump p) ≡ 0 → room_number dump p ≡ answer_number (Err Refusal.Places)
 unfolding room_number is_accepted
 room_accepted dump p e = rw (eq-eqb (answer_number (answer_of dump p)) 0 e)
 

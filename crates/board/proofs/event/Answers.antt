@@ -13,9 +13,8 @@ use Rattle.event.specs.Event.{tick_tag}
 use Rattle.record.specs.declared.Tag.{Tag}
 use Rattle.record.specs.Record.{tag_in_range}
 use Rattle.board.specs.declared.Board.{Board}
-use Rattle.answer.specs.Answer.{answer_number}
+use Rattle.answer.specs.Answer.{Answer, answer_number}
 use Rattle.answer.specs.Answer.Laws.{accepted_is}
-use Rattle.answer.specs.declared.Answer.{Answer}
 use Rattle.board.specs.Board.{tag_at, with_tag, number_at, same_number, judged, judged_by, Left, begun, reached, across, accepted}
 use Rattle.board.specs.Board.Laws.{counted, Passed, passed, places_of, places_some, places_counted, judged_by_lem, line_refused, line_taken, taken_tick, taken_given, across_next, across_over, tick_named, tick_low, reached_heard, reached_ticked}
 use Rattle.board.specs.Board.Places.{Has, part_is, put_is, length_image, length_with}

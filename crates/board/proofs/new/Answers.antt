@@ -6,9 +6,8 @@ use mathlib.Core.Path.{◌≡◌, refl, sym, ap, ◌∙◌}
 use Prim.Native.Nat.{ℕ, ◌+◌, ◌-◌, ◌*◌, ◌<◌, ◌≤◌}
 use native.Mathlib.Omega.{arith}
 use lib.ListN.{length, set, replicate, length-set}
-use Rattle.answer.specs.Answer.{answer_number}
+use Rattle.answer.specs.Answer.{Answer, answer_number}
 use Rattle.answer.specs.Answer.Laws.{accepted_is}
-use Rattle.answer.specs.declared.Answer.{Answer}
 use Rattle.record.specs.declared.Tag.{Tag}
 use Rattle.board.specs.Board.{with_tag, Left, empty_board, new_at, new_judged, across, accepted}
 use Rattle.board.specs.Board.Laws.{counted, Good, good, new_refused, new_taken, across_all, made_at, across_next, across_over}

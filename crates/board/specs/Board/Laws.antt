@@ -1,5 +1,5 @@
 -- An event of a line, by its cases, and a slot or a reset of one tag as the code has it. Assumes nothing.
-use Rattle.std.specs.Prelude.{Bool, true, false, not, ◌&&◌, ◌||◌, ◌≡◌, refl, List, ◌≢◌, eqb, leb, ltb, length, get_or, if◌then◌else◌}
+use Rattle.std.specs.Prelude.{Bool, true, false, not, ◌&&◌, ◌||◌, ◌≡◌, refl, List, ◌≢◌, eqb, leb, ltb, length, get_or, if◌then◌else◌, Ok, Err}
 use Rattle.std.proofs.lemmas.Bool.{false≢true}
 use Rattle.std.proofs.Math.Path.{sym, ap}
 use Rattle.std.proofs.Common.{◌∙◌, zero-add, eqb-true, leb-true, leb-false, ltb-false, eq-eqb, ne_eqb, lt-ltb, le-ltb, le-leb}
@@ -10,7 +10,7 @@ use Rattle.std.proofs.Math.Nat.{sub-zero}
 use native.Mathlib.Omega.{arith}
 use Rattle.answer.specs.Answer.{answer_number}
 use Rattle.answer.specs.Answer.Laws.{accepted_is}
-use Rattle.answer.specs.declared.Answer.{Answer}
+use Rattle.answer.specs.declared.Refusal.{Refusal}
 use Rattle.bits.specs.Choose.{either}
 use Rattle.bits.specs.Each.{each}
 use Rattle.event.specs.Event.{slotted, reset_tag, short_tag, tick_tag}
@@ -78,13 +78,13 @@ passed count size same good code place reading =
     by : (c n s t g e h : Bool) → is_count count ≡ c → names_none count code place ≡ n → eqb size (count * 8832) ≡ s → same ≡ t → good ≡ g →
         ltb 4 code ≡ e → is_high code reading ≡ h →
         answer_number
-        (if not c || n then Answer.TagPlace
-        else if not s then Answer.ImageLength
-        else if t then Answer.SameNumber
-        else if not g then Answer.RecordRange
-        else if e then Answer.EventCode
-        else if h then Answer.Reading
-        else Answer.Accepted)
+        (if not c || n then Err Refusal.TagPlace
+        else if not s then Err Refusal.ImageLength
+        else if t then Err Refusal.SameNumber
+        else if not g then Err Refusal.RecordRange
+        else if e then Err Refusal.EventCode
+        else if h then Err Refusal.Reading
+        else Ok tt)
         ≡ 0 → Passed count size same good code place reading
     by true false true false true false false c n s t g e h o =
         record { few = c; named = n; whole = eqb-true _ _ s; apart = t; ranges = g; event = ltb-false 4 code e; low = h }
@@ -140,7 +140,7 @@ module _ (block : List ℕ) (board : Board) (code place reading : ℕ) where
       (λ none. ap (λ (o : Left). o.shown.answer) (line_taken none) ∙ sym (accepted_is _ none))
       (λ fault. ap (λ (o : Left). o.shown.answer) (line_refused fault))
 
-  pub line_judged : (line_step block board code place reading).shown.answer ≡ Answer.Accepted →
+  pub line_judged : (line_step block board code place reading).shown.answer ≡ Ok tt →
       answer_number (judged (length block) board code place reading) ≡ 0
   line_judged accepts = ap answer_number (sym line_answer ∙ accepts)
 
@@ -239,14 +239,14 @@ module _ (numbers codes : List ℕ) where
   -- the faults from a place on
   pub fault_next : (place count : ℕ) → place < count →
       new_fault numbers codes place (count - place)
-      ≡ (if not (good_number (get_or numbers place 0)) then Answer.RomNumber
-      else if not (good_code (get_or codes place 0)) then Answer.Configuration
+      ≡ (if not (good_number (get_or numbers place 0)) then Err Refusal.RomNumber
+      else if not (good_code (get_or codes place 0)) then Err Refusal.Configuration
       else new_fault numbers codes (place + 1) (count - (place + 1)))
   unfolding new_fault
   fault_next place count h =
       let left : count - place ≡ suc (count - (place + 1)) = omega (arith, h) in ap (new_fault numbers codes place) left
 
-  pub fault_over : (place count : ℕ) → count ≤ place → new_fault numbers codes place (count - place) ≡ Answer.Accepted
+  pub fault_over : (place count : ℕ) → count ≤ place → new_fault numbers codes place (count - place) ≡ Ok tt
   unfolding new_fault
   fault_over place count h = let none : count - place ≡ 0 = omega (arith, h) in ap (new_fault numbers codes place) none
 
@@ -283,9 +283,9 @@ good size numbers codes =
     by : (c m s t : Bool) → is_count (length numbers) ≡ c → eqb (length codes) (length numbers) ≡ m → eqb size (length numbers * 8832) ≡ s →
         same_number (length numbers) (λ i. get_or numbers i 0) ≡ t →
         answer_number
-        (if not (c && m) then Answer.TagPlace
-        else if not s then Answer.ImageLength
-        else if t then Answer.SameNumber
+        (if not (c && m) then Err Refusal.TagPlace
+        else if not s then Err Refusal.ImageLength
+        else if t then Err Refusal.SameNumber
         else new_fault numbers codes 0 (length numbers))
         ≡ 0 → Good size numbers codes
     by true true true false c m s t o = record { few = c; many = eqb-true _ _ m; whole = eqb-true _ _ s; apart = t; sound = o }
