@@ -8,7 +8,7 @@ ghost use Rattle.board.specs.Board.{is_count, names_none, is_high, same_number, 
 ghost use Rattle.board.specs.Board.Laws.{places_of, heard};
 ghost use Rattle.board.specs.Board.Numbers.{stands_in};
 
-use answer::Answer;
+use answer::Refusal;
 use record::{Answered, Tag};
 
 // What a tag's image takes of the block.
@@ -26,7 +26,7 @@ pub struct Board {
 #[derive(Clone, Copy)]
 pub struct Shown {
     pub board: Board,
-    pub answer: Answer,
+    pub answer: Result<(), Refusal>,
     pub line: bool,
 }
 
@@ -38,34 +38,28 @@ pub fn new(block: &mut [u8], numbers: &[u64], codes: &[u8]) -> Shown
 {
     let none = record::fresh(0, 0);
     let mut tags = [none; 7];
-    let answer = judge_new(block.len(), numbers, codes);
-    if answer::number(answer) != 0 {
-        let board = Board { tags, count: 0 };
+    if let Err(refusal) = judge_new(block.len(), numbers, codes) {
         return Shown {
-            board,
-            answer,
+            board: Board { tags, count: 0 },
+            answer: Err(refusal),
             line: true,
         };
     }
-    let mut i = 0;
-    while i < numbers.len() {
+    for (i, &number) in numbers.iter().enumerate() {
         let from = i * IMAGE;
         let made = tag::new(
             &mut block[from..from + IMAGE],
-            numbers[i],
+            number,
             image::peek(codes, i),
         );
-        let tag = made.tag;
-        tags[i] = tag;
-        i += 1;
+        tags[i] = made.tag;
     }
-    let board = Board {
-        tags,
-        count: numbers.len() as u8,
-    };
     Shown {
-        board,
-        answer,
+        board: Board {
+            tags,
+            count: numbers.len() as u8,
+        },
+        answer: Ok(()),
         line: true,
     }
 }
@@ -81,31 +75,25 @@ pub fn event(block: &mut [u8], board: Board, code: u8, place: u8, reading: u16) 
     let mut good = true;
     let end = places(count);
     for i in 0..end {
-        let tag = tags[i];
-        let x = tag.exchange;
-        numbers[i] = x.number;
-        good = both(good, record::in_range(tag));
+        numbers[i] = tags[i].exchange.number;
+        good &= record::in_range(tags[i]);
     }
     let same = same_number(&numbers[..end]);
     let answer = judge(count, block.len(), same, good, code, place, reading);
     let mut line = true;
-    if answer::number(answer) == 0 {
+    if answer.is_ok() {
         if code == 3 {
             let at = place as usize;
             let from = at * IMAGE;
             let answered = event::tick(&mut block[from..from + IMAGE], tags[at], reading);
-            let tag = answered.tag;
-            tags[at] = tag;
+            tags[at] = answered.tag;
             line = answered.line;
         } else {
-            let mut at = 0;
-            while at < count as usize {
+            for at in 0..count as usize {
                 let from = at * IMAGE;
                 let answered = hear(&mut block[from..from + IMAGE], tags[at], code);
-                let tag = answered.tag;
-                tags[at] = tag;
-                line = both(line, answered.line);
-                at += 1;
+                tags[at] = answered.tag;
+                line &= answered.line;
             }
         }
     }
@@ -117,47 +105,35 @@ pub fn event(block: &mut [u8], board: Board, code: u8, place: u8, reading: u16) 
 }
 
 // How many of the seven records a count speaks of.
+#[tactic(auto, unfolding(crate::specs::Board::Laws::places_of))]
 pub fn places(count: u8) -> usize
     ensures { result ≡ places_of count }
 {
-    if count <= 7 { count as usize } else { 7 }
-}
-
-fn both(a: bool, b: bool) -> bool
-    ensures { result ≡ (a && b) }
-{
-    a && b
+    usize::from(count).min(7)
 }
 
 // Whether two of these are the same.
 pub fn same_number(numbers: &[u64]) -> bool
     ensures { result ≡ same_number (length numbers.now) (λ i. get_or numbers.now i 0) }
 {
-    let mut i = 0;
-    while i < numbers.len() {
-        if stands_in(&numbers[..i], numbers[i]) {
+    for (i, &number) in numbers.iter().enumerate() {
+        if stands_in(&numbers[..i], number) {
             return true;
         }
-        i += 1;
     }
     false
 }
 
 // Whether a number is one of these.
+#[tactic(auto, unfolding(crate::specs::Board::Numbers::stands_in))]
 fn stands_in(numbers: &[u64], number: u64) -> bool
     ensures { result ≡ stands_in numbers.now number }
 {
-    let mut i = 0;
-    while i < numbers.len() {
-        if numbers[i] == number {
-            return true;
-        }
-        i += 1;
-    }
-    false
+    numbers.contains(&number)
 }
 
 // The answer to an event, once it is known whether two numbers are the same and all records keep to their ranges.
+#[tactic(auto, unfolding(crate::specs::Board::judged_by))]
 pub fn judge(
     count: u8,
     size: usize,
@@ -166,70 +142,70 @@ pub fn judge(
     code: u8,
     place: u8,
     reading: u16,
-) -> Answer
+) -> Result<(), Refusal>
     ensures { result ≡ judged_by count size same good code place reading }
 {
     if !is_count(count as usize) {
-        return Answer::TagPlace;
+        return Err(Refusal::TagPlace);
     }
     if names_none(count, code, place) {
-        return Answer::TagPlace;
+        return Err(Refusal::TagPlace);
     }
     if size != count as usize * IMAGE {
-        return Answer::ImageLength;
+        return Err(Refusal::ImageLength);
     }
     if same {
-        return Answer::SameNumber;
+        return Err(Refusal::SameNumber);
     }
     if !good {
-        return Answer::RecordRange;
+        return Err(Refusal::RecordRange);
     }
     if 4 < code {
-        return Answer::EventCode;
+        return Err(Refusal::EventCode);
     }
     if is_high(code, reading) {
-        return Answer::Reading;
+        return Err(Refusal::Reading);
     }
-    Answer::Accepted
+    Ok(())
 }
 
 // The answer to a new line.
-pub fn judge_new(size: usize, numbers: &[u64], codes: &[u8]) -> Answer
+#[tactic(auto, unfolding(crate::specs::Board::new_judged))]
+pub fn judge_new(size: usize, numbers: &[u64], codes: &[u8]) -> Result<(), Refusal>
     ensures { result ≡ new_judged size numbers.now codes.now }
 {
     if !is_count(numbers.len()) {
-        return Answer::TagPlace;
+        return Err(Refusal::TagPlace);
     }
     if codes.len() != numbers.len() {
-        return Answer::TagPlace;
+        return Err(Refusal::TagPlace);
     }
     if size != numbers.len() * IMAGE {
-        return Answer::ImageLength;
+        return Err(Refusal::ImageLength);
     }
     if same_number(numbers) {
-        return Answer::SameNumber;
+        return Err(Refusal::SameNumber);
     }
     fault(numbers, codes)
 }
 
 // The first fault of a number or a code, place by place.
-fn fault(numbers: &[u64], codes: &[u8]) -> Answer
+fn fault(numbers: &[u64], codes: &[u8]) -> Result<(), Refusal>
     ensures { result ≡ new_fault numbers.now codes.now 0 (length numbers.now) }
 {
-    let mut i = 0;
-    while i < numbers.len() {
-        if !record::good_number(numbers[i]) {
-            return Answer::RomNumber;
+    for (i, &number) in numbers.iter().enumerate() {
+        if !record::good_number(number) {
+            return Err(Refusal::RomNumber);
         }
         if !record::good_code(image::peek(codes, i)) {
-            return Answer::Configuration;
+            return Err(Refusal::Configuration);
         }
-        i += 1;
     }
-    Answer::Accepted
+    Ok(())
 }
 
 // Whether a line can have so many tags.
+#[tactic(auto, unfolding(crate::specs::Board::is_count))]
 fn is_count(count: usize) -> bool
     ensures { result ≡ is_count count }
 {
@@ -237,6 +213,7 @@ fn is_count(count: usize) -> bool
 }
 
 // Whether an event is a tick for a place that has no tag.
+#[tactic(auto, unfolding(crate::specs::Board::names_none))]
 fn names_none(count: u8, code: u8, place: u8) -> bool
     ensures { result ≡ names_none count code place }
 {
@@ -244,6 +221,7 @@ fn names_none(count: u8, code: u8, place: u8) -> bool
 }
 
 // Whether it is a tick whose reading is too high.
+#[tactic(auto, unfolding(crate::specs::Board::is_high))]
 fn is_high(code: u8, reading: u16) -> bool
     ensures { result ≡ is_high code reading }
 {
@@ -251,12 +229,13 @@ fn is_high(code: u8, reading: u16) -> bool
 }
 
 // A slot or a reset of one tag.
+#[tactic(auto, unfolding(crate::specs::Board::Laws::heard, event::specs::Event::reset_tag, event::specs::Event::short_tag))]
 fn hear(image: &mut [u8], tag: Tag, code: u8) -> Answered
     ensures value { result ≡ (heard image.old tag code).answered }
     ensures image_after { image.new ≡ (heard image.old tag code).image }
 {
     match code {
-        0..=1 => event::slot(image, tag, code == 1),
+        0 | 1 => event::slot(image, tag, code == 1),
         2 => event::reset(tag),
         _ => event::short_reset(tag),
     }

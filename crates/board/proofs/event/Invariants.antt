@@ -3,7 +3,7 @@
 use mathlib.Core.Bool.{Bool, true}
 use mathlib.Core.List.{List}
 use mathlib.Core.Path.{◌≡◌}
-use Prim.Native.Nat.{ℕ, ◌-◌, ◌≤◌, ◌<◌}
+use Prim.Native.Nat.{ℕ, ◌-◌, ◌<◌}
 use lib.ListN.{length, get_or}
 use Rattle.bits.specs.Each.{each}
 use Rattle.record.specs.declared.Tag.{Tag}
@@ -21,17 +21,11 @@ going block tags count line = record { block = block; board = of tags count; lin
 
 abbrev pub invariant-loop-i : goal.invariant-loop-i
 invariant-loop-i l =
-    (l.i ≤ l.end) × (l.end ≡ places_of l.count) × (length l.tags ≡ 7) × (length l.numbers ≡ 7)
+    (l.end ≡ places_of l.count) × (length l.tags ≡ 7) × (length l.numbers ≡ 7)
     × ((k : ℕ) → k < l.i → get_or l.numbers k 0 ≡ number_at (of l.tags l.count) k)
     × (l.good ≡ each l.i (λ k. tag_in_range (tag_at (of l.tags l.count) k)))
 
-abbrev pub decreases-loop-i : goal.decreases-loop-i
-decreases-loop-i l = l.end - l.i
-
 abbrev pub invariant-loop-at : goal.invariant-loop-at
 invariant-loop-at l =
-    (l.at ≤ l.count) × (length l.block ≡ length l.initial.block) × (length l.tags ≡ 7)
+    (length l.block ≡ length l.initial.block) × (length l.tags ≡ 7)
     × (across (reached l.code 0) l.at (l.count - l.at) (going l.block l.tags l.count l.line) ≡ across (reached l.code 0) 0 l.count (going l.initial.block l.initial.tags l.count true))
-
-abbrev pub decreases-loop-at : goal.decreases-loop-at
-decreases-loop-at l = l.count - l.at

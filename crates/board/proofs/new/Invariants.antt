@@ -3,7 +3,7 @@
 use mathlib.Core.Bool.{true}
 use mathlib.Core.List.{List}
 use mathlib.Core.Path.{◌≡◌}
-use Prim.Native.Nat.{ℕ, ◌-◌, ◌≤◌}
+use Prim.Native.Nat.{ℕ, ◌-◌}
 use lib.ListN.{length}
 use Rattle.record.specs.declared.Tag.{Tag}
 use Rattle.board.specs.declared.Board.{Board}
@@ -18,9 +18,6 @@ going block tags count = record { block = block; board = of tags count; line = t
 
 abbrev pub invariant-loop-i : goal.invariant-loop-i
 invariant-loop-i l =
-    (l.i ≤ length l.numbers) × (length l.block ≡ length l.initial.block) × (length l.tags ≡ 7)
+    (length l.block ≡ length l.initial.block) × (length l.tags ≡ 7)
     × (across (new_at l.numbers l.codes) l.i (length l.numbers - l.i) (going l.block l.tags (length l.numbers))
     ≡ across (new_at l.numbers l.codes) 0 (length l.numbers) (begun l.initial.block (empty_board (length l.numbers))))
-
-abbrev pub decreases-loop-i : goal.decreases-loop-i
-decreases-loop-i l = length l.numbers - l.i

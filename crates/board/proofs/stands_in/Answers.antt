@@ -1,24 +1,18 @@
--- `board::stands_in` meets its contract. Assumes nothing.
-use mathlib.Core.Path.{◌≡◌, sym}
-use mathlib.Core.Logic.{dite}
-use native.Mathlib.Decide.{dec_lt}
-use native.Mathlib.Omega.{arith}
-use Rattle.board.specs.Board.Numbers.{stands_at, stands_nowhere}
+-- `board::stands_in` meets its contract: what `contains` finds is at a place, and what stands at a place it finds. Assumes nothing.
+use mathlib.Core.Path.{◌∙◌}
+use Rattle.std.specs.Bool.{one_answer}
+use Rattle.std.specs.Cmp.{unsigned_Decides}
+use Rattle.std.proofs.lemmas.List.Elements.{contains_decides}
+use Rattle.board.specs.Board.Numbers.{stands_at, stands_where}
+use Rattle.board.specs.Board.Places.{get_d_any}
 use Rattle.board.proofs.stands_in.Goals as goal
 
-pub loop-i-init : goal.loop-i-init
-loop-i-init c = (omega arith, λ k h. absurd (omega (arith, h)))
-
-pub returns-then-numbers-i : goal.returns-then-numbers-i
-returns-then-numbers-i c = sym (stands_at _ _ c.loop-i.i c.loop-i-test.true c.if-numbers-i.true)
-
-pub loop-i-preserved : goal.loop-i-preserved
-loop-i-preserved c =
-    let l = c.loop-i in (
-      omega (arith, c.loop-i-test.true),
-      λ k h e. dite (dec_lt k l.i) (λ lt. l.invariant.1 k lt e)
-          (λ ge. let here : k ≡ l.i = omega (arith, h, ge) in c.if-numbers-i.false (rw (← here) e)),
-    )
-
 pub returns : goal.returns
-returns c = sym (stands_nowhere _ _ (λ k h. c.loop-i.invariant.1 k (omega (arith, h, c.loop-i-test.false))))
+returns c =
+    let numbers = c.args.numbers.now in
+    let number = c.args.number in
+    one_answer _ _ (contains_decides _ unsigned_Decides numbers number _ c.contains.ensures.cases) (
+      λ e. let there = stands_where numbers number e in
+          (there.0, there.1, λ d. get_d_any numbers there.0 d 0 there.1 ∙ there.2),
+      λ there. stands_at numbers number there.0 there.1 (there.2 0),
+    )
