@@ -6,8 +6,10 @@ ghost use Rattle.std.specs.Prelude.{◌≡◌};
 ghost use Rattle.record.specs.Record.{good_number, good_code, tag_in_range, fresh_tag, accepted, refused};
 
 use answer::Refusal;
+use bus::{Bus, Held};
 use exchange::Exchange;
 use mission::Counters;
+use select::Select;
 
 #[derive(Clone, Copy)]
 pub struct Tag {
@@ -74,7 +76,7 @@ pub fn refuse(refusal: Refusal, tag: Tag) -> Answered
 {
     Answered {
         answer: Err(refusal),
-        tag,
+        tag: afresh(tag),
         line: true,
     }
 }
@@ -85,7 +87,62 @@ pub fn accept(tag: Tag, line: bool) -> Answered
 {
     Answered {
         answer: Ok(()),
-        tag,
+        tag: afresh(tag),
         line,
+    }
+}
+
+// The same record, written field by field. A struct that is handed on whole takes the bytes between its fields along: without this a slot of
+// `play` counts over twice what it does in plain C, and with `..`, or the fields taken straight from the record, a slot of a list a sixth
+// more (bench/README.md).
+fn afresh(tag: Tag) -> Tag
+    ensures { result ≡ tag }
+{
+    let counters = afresh_counters(tag.counters);
+    let x = tag.exchange;
+    let s = x.select;
+    let choosing = s.choosing;
+    let mode = s.mode;
+    let select = Select { choosing, mode };
+    let h = x.held;
+    let pad = h.pad;
+    let held = Held {
+        pad,
+        ta: h.ta,
+        ending: h.ending,
+        pf: h.pf,
+        aa: h.aa,
+    };
+    let b = x.bus;
+    let stage = b.stage;
+    let bus = Bus {
+        stage,
+        byte: b.byte,
+        at: b.at,
+        crc: b.crc,
+        address: b.address,
+        status: b.status,
+        field: b.field,
+    };
+    let exchange = Exchange {
+        number: x.number,
+        select,
+        held,
+        bus,
+    };
+    Tag {
+        code: tag.code,
+        counters,
+        exchange,
+    }
+}
+
+fn afresh_counters(c: Counters) -> Counters
+    ensures { result ≡ c }
+{
+    Counters {
+        reading: c.reading,
+        minute: c.minute,
+        wait: c.wait,
     }
 }
