@@ -11,7 +11,7 @@ ghost use Rattle.packing.specs.Packing.{bytes_of, AllFit};
 ghost use Rattle.dock.specs.Listing.{listing_of};
 ghost use Rattle.bagtag.specs.Bagtag.{new_call, NewFits, event_call, EventFits, events_call, EventsFit, list_call, room_number, head_of, HeadFits, counts_of};
 
-use answer::Answer;
+use answer::Refusal;
 use dock::Listing;
 
 pub mod line;
@@ -32,15 +32,13 @@ pub fn bagtag_new(image: &mut [u8], lent: &mut [u8], number: u64, code: u8) -> u
 {
     if lent.len() != packing::RECORD {
         if image.len() != IMAGE {
-            return answer::number(Answer::ImageLength);
+            return u8::from(Refusal::ImageLength);
         }
-        return answer::number(Answer::RecordRange);
+        return u8::from(Refusal::RecordRange);
     }
     let made = tag::new(image, number, code);
-    let answer = made.answer;
-    let tag = made.tag;
-    packing::pack(lent, tag);
-    answer::number(answer)
+    packing::pack(lent, made.tag);
+    answer::number(made.answer)
 }
 
 // One event. Refused with 3, 6, 1 or 2, in that order; the line bit is then 1, and nothing else changes.
@@ -55,17 +53,15 @@ pub fn bagtag_event(image: &mut [u8], lent: &mut [u8], code: u8, reading: u16, l
 {
     *line = 1;
     if image.len() != IMAGE {
-        return answer::number(Answer::ImageLength);
+        return u8::from(Refusal::ImageLength);
     }
     if !packing::is_packed(lent) {
-        return answer::number(Answer::RecordRange);
+        return u8::from(Refusal::RecordRange);
     }
     let answered = tag::event(image, packing::unpack(lent), code, reading);
-    let answer = answered.answer;
-    let tag = answered.tag;
-    packing::pack(lent, tag);
+    packing::pack(lent, answered.tag);
     *line = bits::digit(answered.line);
-    answer::number(answer)
+    answer::number(answered.answer)
 }
 
 // A list of events. Refused with 17, 3 or 6, in that order, and nothing is done; a word that is no event ends it with 1, and the words
@@ -88,20 +84,18 @@ pub fn bagtag_events(
 {
     *done = 0;
     if replies.len() < words.len() {
-        return answer::number(Answer::Replies);
+        return u8::from(Refusal::Replies);
     }
     if image.len() != IMAGE {
-        return answer::number(Answer::ImageLength);
+        return u8::from(Refusal::ImageLength);
     }
     if !packing::is_packed(lent) {
-        return answer::number(Answer::RecordRange);
+        return u8::from(Refusal::RecordRange);
     }
     let left = batch::events(image, packing::unpack(lent), words, replies);
-    let answer = left.answer;
-    let tag = left.tag;
-    packing::pack(lent, tag);
+    packing::pack(lent, left.tag);
     *done = left.done;
-    answer::number(answer)
+    answer::number(left.answer)
 }
 
 // The listing of a dump: the temperatures of the entries held, and in `head` what it says of them. Refused with 7, 9 or 8 by the dump's
@@ -117,23 +111,21 @@ pub fn bagtag_list(dump: &[u8], temperatures: &mut [i32], head: &mut [u8]) -> u8
         return short_head(dump);
     }
     let listing = dock::list_dump(dump, temperatures);
-    let answer = listing.answer;
-    let number = answer::number(answer);
-    if number == 0 {
+    if listing.answer.is_ok() {
         put_head(head, listing);
     }
-    number
+    answer::number(listing.answer)
 }
 
 // The number of a dump for which `head` is too short: with no place lent either, a dump that is to be listed has 12 or 0.
 fn short_head(dump: &[u8]) -> u8
     ensures { result ≡ room_number dump.now 0 }
 {
-    let mut none = [0i32; 0];
-    let listing = dock::list_dump(dump, &mut none);
-    let answer = listing.answer;
-    let number = answer::number(answer);
-    if number == 0 { 12 } else { number }
+    let listing = dock::list_dump(dump, &mut []);
+    match listing.answer {
+        Ok(()) => u8::from(Refusal::Places),
+        Err(refusal) => u8::from(refusal),
+    }
 }
 
 // What a listing says, low byte first: code, 0, stamp, entries held, first entry, its seconds, period.
@@ -144,16 +136,8 @@ fn put_head(head: &mut [u8], listing: Listing)
 {
     let stamp = listing.stamp;
     packing::put(head, 0, &[listing.code, 0]);
-    put_stamp(head, stamp);
-    put_counts(head, listing);
-}
-
-// A function of its own, since what its type says of the stamp, six bytes, is known of a parameter.
-fn put_stamp(head: &mut [u8], stamp: [u8; 6])
-    ensures head_after { head.new ≡ sets head.old 2 stamp }
-    ensures stamp_len { length stamp ≡ 6 }
-{
     packing::put(head, 2, &stamp);
+    put_counts(head, listing);
 }
 
 // The numbers behind the stamp.

@@ -1,9 +1,11 @@
 // Several tags on one line, for C: their images in one lent block, their records side by side in lent bytes. A contract says what the types
 // do here too.
 ghost use Rattle.std.specs.Prelude.{◌≡◌};
+ghost use Rattle.answer.specs.Answer.{answer_number};
 ghost use Rattle.bits.specs.Bytes.{Bytes};
 ghost use Rattle.bagtag.specs.Line.{short_number, new_line_call, NewLineFits, line_call, LineFits};
 
+use answer::Refusal;
 use board::Board;
 
 // A new line. Refused with 14, 3 or 13, with 6 for the records' length, then place by place with 4 or 5; where the records' length is right
@@ -16,31 +18,25 @@ pub fn bagtag_line_new(block: &mut [u8], records: &mut [u8], numbers: &[u64], co
     ensures new_line_fits { NewLineFits block.old records.old numbers.now codes.now }
 {
     if !rack::has_room(records.len(), numbers.len()) {
-        let answer = board::judge_new(block.len(), numbers, codes);
-        return short_number(answer::number(answer));
+        return short_number(board::judge_new(block.len(), numbers, codes));
     }
     let shown = board::new(block, numbers, codes);
-    let answer = shown.answer;
-    let made = shown.board;
-    let tags = made.tags;
     let board = Board {
-        tags,
         count: numbers.len() as u8,
+        ..shown.board
     };
     rack::pack(records, board);
-    answer::number(answer)
+    answer::number(shown.answer)
 }
 
 // The number of a new line whose records have another length: 6 stands before 4 and 5.
 #[tactic(auto, unfolding(crate::specs::Line::short_number))]
-fn short_number(number: u8) -> u8
-    ensures { result ≡ short_number number }
+fn short_number(answer: Result<(), Refusal>) -> u8
+    ensures { result ≡ short_number (answer_number answer) }
 {
-    match number {
-        0 => 6,
-        4 => 6,
-        5 => 6,
-        _ => number,
+    match answer {
+        Ok(()) | Err(Refusal::RomNumber | Refusal::Configuration) => u8::from(Refusal::RecordRange),
+        Err(refusal) => u8::from(refusal),
     }
 }
 
@@ -65,17 +61,12 @@ pub fn bagtag_line_event(
     *line = 1;
     if !rack::is_rack(records, count) {
         let same = rack::same_number(records, count);
-        let answer = board::judge(count, block.len(), same, false, code, place, reading);
-        return answer::number(answer);
+        return answer::number(board::judge(count, block.len(), same, false, code, place, reading));
     }
     let shown = board::event(block, rack::unpack(records, count), code, place, reading);
-    let answer = shown.answer;
-    let number = answer::number(answer);
-    if number != 0 {
-        return number;
+    if shown.answer.is_ok() {
+        rack::pack(records, shown.board);
+        *line = bits::digit(shown.line);
     }
-    let left = shown.board;
-    rack::pack(records, left);
-    *line = bits::digit(shown.line);
-    number
+    answer::number(shown.answer)
 }

@@ -19,7 +19,7 @@ use Rattle.std.specs.Prelude.{Ok, Err, ◌≢◌, ◌&&◌}
 use Rattle.std.specs.Result.{is_ok}
 use Rattle.std.proofs.lemmas.Bool.{false≢true}
 use Rattle.board.specs.Board.{tag_at, with_tag, number_at, same_number, judged, judged_by, Left, begun, reached, across, accepted}
-use Rattle.board.specs.Board.Laws.{counted, Passed, passed, places_of, places_some, places_counted, judged_by_lem, line_refused, line_taken, taken_tick, taken_given, across_next, across_over, tick_named, tick_low, reached_heard, reached_ticked}
+use Rattle.board.specs.Board.Laws.{accepts, refuses, counted, Passed, passed, places_of, places_some, places_counted, judged_by_lem, line_refused, line_taken, taken_tick, taken_given, across_next, across_over, tick_named, tick_low, reached_heard, reached_ticked}
 use Rattle.board.specs.Board.Places.{Has, part_is, put_is, length_image, length_with}
 use Rattle.board.specs.Board.Reading.{read_is, numbers_next, same_read}
 use Rattle.board.proofs.event.Invariants.{of, going}
@@ -95,15 +95,6 @@ judge_is block b code place reading numbers good same end i read left is_same ju
           ∙ ap (λ (n : ℕ). same_number n (number_at b)) (read.0 ∙ whole),
       read.4 ∙ ap (λ (n : ℕ). each n (λ i. tag_in_range (tag_at b i))) all,
     ))
-
--- an answer that is accepted has the number 0, and no other
-accepts : (answer : Answer) {ok : Bool} → ok ≡ is_ok answer → ok ≡ true → answer_number answer ≡ 0
-accepts (Ok _) p e = refl
-accepts (Err _) p e = absurd (false≢true (sym p ∙ e))
-
-refuses : (answer : Answer) {ok : Bool} → ok ≡ is_ok answer → ok ≡ false → answer_number answer ≢ 0
-refuses (Ok _) p e = absurd (false≢true (sym e ∙ p))
-refuses (Err refusal) p e = λ zero. absurd (omega (arith, refusal_counts refusal, zero))
 
 -- what it has passed then
 pass : {count size : ℕ} {same good : Bool} {code place reading : ℕ} {answer : Answer} →

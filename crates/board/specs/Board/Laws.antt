@@ -8,8 +8,9 @@ use Prim.Native.Nat.{ℕ, zero, suc, ◌+◌, ◌*◌, ◌-◌, ◌≤◌, ◌<�
 use Rattle.std.proofs.Math.Decide.{dec_lt, ℕ_discrete}
 use Rattle.std.proofs.Math.Nat.{sub-zero}
 use native.Mathlib.Omega.{arith}
-use Rattle.answer.specs.Answer.{answer_number}
-use Rattle.answer.specs.Answer.Laws.{accepted_is}
+use Rattle.answer.specs.Answer.{Answer, answer_number}
+use Rattle.answer.specs.Answer.Laws.{refusal_counts, accepted_is}
+use Rattle.std.specs.Result.{is_ok}
 use Rattle.answer.specs.declared.Refusal.{Refusal}
 use Rattle.bits.specs.Choose.{either}
 use Rattle.bits.specs.Each.{each}
@@ -36,6 +37,15 @@ heard_is image tag code few none =
     (λ other. rw (le-ltb code 2 (omega (arith, past)), ne_eqb code 2 other, event_short image tag code 0 (omega (arith, few, none, past, other))) refl))
 
 -- ---- what is judged
+
+-- an answer that is accepted has the number 0, and no other
+pub accepts : (answer : Answer) {ok : Bool} → ok ≡ is_ok answer → ok ≡ true → answer_number answer ≡ 0
+accepts (Ok _) p e = refl
+accepts (Err _) p e = absurd (false≢true (sym p ∙ e))
+
+pub refuses : (answer : Answer) {ok : Bool} → ok ≡ is_ok answer → ok ≡ false → answer_number answer ≢ 0
+refuses (Ok _) p e = absurd (false≢true (sym e ∙ p))
+refuses (Err refusal) p e = λ zero. absurd (omega (arith, refusal_counts refusal, zero))
 
 -- a count of a line
 pub counted : (count : ℕ) → is_count count ≡ true → (1 ≤ count) × (count ≤ 7)
