@@ -1,7 +1,7 @@
 // The library for C, which bagtag_c exports: the tag's and the dock's calls on numbers and lent bytes alone, with the record packed into
 // 80 of them. Each answers whatever it is given, by document 01's numbers; include/bagtag.h says it to who calls. Beside its equations a
 // contract says what the types do: that the record's slice is of bytes, and that the record it leaves fits them. So a refusal that packs it
-// again changes no byte.
+// again changes no byte. Numbers for refusals, a number beside `*line` or `*done`, and slices side by side are the interface of C.
 #![tactic(auto)]
 
 ghost use Rattle.std.specs.Prelude.{◌≡◌, length};

@@ -1,9 +1,12 @@
 // Several tags on one line: up to seven records with a count, and one lent block in which each tag has its image. A slot or a reset goes
 // to all of them, and the line bit is the AND of theirs; a tick goes to the tag at its place. All is judged before anything is done: so a
 // refusal changes nothing, wherever the fault stands.
+//
+// Numbers and codes are two slices, as C lends them (include/bagtag.h); code, place and reading are document 01's numbers, and any may come.
+// What is written is written by index: after `iter_mut` or `chunks_exact_mut` a proof knows lengths and no element.
 #![tactic(auto)]
 
-ghost use Rattle.std.specs.Prelude.{◌&&◌, ◌≡◌, length, get_or};
+ghost use Rattle.std.specs.Prelude.{◌≡◌, length, get_or};
 ghost use Rattle.board.specs.Board.{is_count, names_none, is_high, same_number, judged_by, line_step, new_fault, new_judged, new_line};
 ghost use Rattle.board.specs.Board.Laws.{places_of, heard};
 ghost use Rattle.board.specs.Board.Numbers.{stands_in};
@@ -14,15 +17,16 @@ use record::{Answered, Tag};
 // What a tag's image takes of the block.
 const IMAGE: usize = 8832;
 
-// A line's records; those from the count on are not looked at. They come first, since the compiler then copies them once less on their
-// way in and out of an event (bench/README.md).
+// A line's records; those from the count on are not looked at. A count beside an array, since the project has fixed memory and no heap. The
+// records come first, since the compiler then copies them once less on their way in and out of an event (bench/README.md).
 #[derive(Clone, Copy)]
 pub struct Board {
     pub tags: [Tag; 7],
     pub count: u8,
 }
 
-// What a call answers: the line's records, the number's case, and the line bit.
+// What a call answers: the line's records, accepted or a refusal, and the line bit. A refusal has records and bit too, "a refusal changes no
+// tag" (request #106): so they stand beside the result, and not in its `Ok`.
 #[derive(Clone, Copy)]
 pub struct Shown {
     pub board: Board,

@@ -1,7 +1,7 @@
 -- `board::event` meets its contract. Assumes nothing.
-use mathlib.Core.Bool.{Bool, true, false}
+use mathlib.Core.Bool.{Bool, true}
 use mathlib.Core.List.{List}
-use mathlib.Core.Path.{◌≡◌, refl, sym, ap, ◌∙◌}
+use mathlib.Core.Path.{◌≡◌, sym, ap, ◌∙◌}
 use Prim.Native.Nat.{ℕ, ◌+◌, ◌*◌, ◌-◌, ◌≤◌, ◌<◌}
 use native.Mathlib.Numerals.{add-one}
 use native.Mathlib.Omega.{arith}
@@ -14,10 +14,8 @@ use Rattle.record.specs.declared.Tag.{Tag}
 use Rattle.record.specs.Record.{tag_in_range}
 use Rattle.board.specs.declared.Board.{Board}
 use Rattle.answer.specs.Answer.{Answer, answer_number}
-use Rattle.answer.specs.Answer.Laws.{accepted_is, refusal_counts}
-use Rattle.std.specs.Prelude.{Ok, Err, ◌≢◌, ◌&&◌}
-use Rattle.std.specs.Result.{is_ok}
-use Rattle.std.proofs.lemmas.Bool.{false≢true}
+use Rattle.answer.specs.Answer.Laws.{accepted_is}
+use Rattle.std.specs.Prelude.{◌&&◌}
 use Rattle.board.specs.Board.{tag_at, with_tag, number_at, same_number, judged, judged_by, Left, begun, reached, across, accepted}
 use Rattle.board.specs.Board.Laws.{accepts, refuses, counted, Passed, passed, places_of, places_some, places_counted, judged_by_lem, line_refused, line_taken, taken_tick, taken_given, across_next, across_over, tick_named, tick_low, reached_heard, reached_ticked}
 use Rattle.board.specs.Board.Places.{Has, part_is, put_is, length_image, length_with}
