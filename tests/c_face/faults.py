@@ -43,10 +43,10 @@ FAULTS = (
     Fault("a byte read past the record", PACKING, {"image::peek(lent, 0) != VERSION": "lent[0] != VERSION || lent[80] == 77"}),
     Fault("the line left as it was by a refusal", BAGTAG, {"    *line = 1;\n": ""}),
     Fault("the record changed by a refused reading", BAGTAG, {
-        "packing::pack(lent, tag);\n    *line": "packing::pack(lent, tag);\n"
+        "packing::pack(lent, answered.tag);\n    *line": "packing::pack(lent, answered.tag);\n"
         "    if reading > 2047 { image::poke(lent, 79, 1); }\n    *line"}),
     Fault("the record as it was where words end with a refused one", BAGTAG, {
-        "packing::pack(lent, tag);\n    *done": "if left.done == words.len() { packing::pack(lent, tag); }\n    *done"}),
+        "packing::pack(lent, left.tag);\n    *done": "if left.done == words.len() { packing::pack(lent, left.tag); }\n    *done"}),
     Fault("done not told", BAGTAG, {"    *done = left.done;\n": ""}),
     Fault("too few replies after a bad image", BAGTAG, {
         "if replies.len() < words.len() {": "if replies.len() < words.len() && image.len() == IMAGE {"}),
@@ -54,7 +54,7 @@ FAULTS = (
     Fault("places written with too short a head", BAGTAG, {
         "return short_head(dump);": "dock::list_dump(dump, temperatures);\n        return short_head(dump);"}),
     Fault("a head filled for a dump with too few places", BAGTAG, {
-        "if number == 0 {\n        put_head": "if number % 12 == 0 {\n        put_head"}),
+        "if listing.answer.is_ok() {\n        put_head": "if answer::number(listing.answer) % 12 == 0 {\n        put_head"}),
     Fault("entries held and first entry change places in a head", BAGTAG, {
         "(head, 8, 4, listing.held": "(head, 0, 4, listing.held", "(head, 12, 4, ": "(head, 8, 4, ",
         "(head, 0, 4, listing.held": "(head, 12, 4, listing.held"}),
@@ -64,9 +64,9 @@ FAULTS = (
         "block.len(), same, false, ": "block.len(), same && false, false, "}),
     Fault("the number compared of a record that is not wholly there", LINE, {"(few / 80)": "((few + 40) / 80)"}),
     Fault("the records of a refused new line left", LINE, {
-        "    rack::pack(records, board);\n": "    if made.count != 0 { rack::pack(records, board); }\n"}),
+        "    rack::pack(records, board);\n": "    if shown.board.count != 0 { rack::pack(records, board); }\n"}),
     Fault("the records of a line not packed after a tick", LINE, {
-        "    rack::pack(records, left);\n": "    if code != 3 { rack::pack(records, left); }\n"}),
+        "    rack::pack(records, shown.board);\n": "    if code != 3 { rack::pack(records, shown.board); }\n"}),
     Fault("the bits of Read ROM not counted as sent", HEADER, {"(record)[BAGTAG_AT_CHOOSING] == 2 || ": ""}),
     Fault("the bits after a Copy not counted as sent", HEADER, {" || (record)[BAGTAG_AT_STAGE] == 4": ""}),
     Fault("the master's choice of a Search counted as sent", HEADER, {
