@@ -1,11 +1,10 @@
 -- What the playing program prints and leaves (document 01, "What is built"). Assumes nothing.
-use Rattle.std.specs.Prelude.{List, ℕ, length, get_or}
+use Rattle.std.specs.Prelude.{List, ℕ, get_or}
 use Rattle.answer.specs.Answer.{answer_number}
 use Rattle.console.specs.Console.{Reply, Session, played, groups_in, reading_of}
 use Rattle.record.specs.declared.Tag.{Tag}
 use Rattle.record.specs.Record.{Outcome}
 use Rattle.tag.specs.Tag.{step}
-use Rattle.play.specs.declared.Played.{Played}
 pub mod Laws
 
 -- an event of "three bytes .. (code, reading high, low ..)"
@@ -17,7 +16,3 @@ reply_of image tag group =
 -- the events of the input; "a short last group is dropped"
 abbrev pub session_of : List ℕ → Tag → List ℕ → Session Tag
 session_of image tag input = played reply_of image tag (groups_in 3 input)
-
--- as the code returns it: how much is printed stands for the text
-abbrev pub played_in : Session Tag → Played
-played_in s = record { tag = s.back; printed = length s.text; accepted = s.accepted }

@@ -1,10 +1,9 @@
 -- What the playing program for a line of several tags prints and leaves (request #106). Assumes nothing.
-use Rattle.std.specs.Prelude.{List, ℕ, length, get_or}
+use Rattle.std.specs.Prelude.{List, ℕ, get_or}
 use Rattle.answer.specs.Answer.{answer_number}
 use Rattle.board.specs.declared.Board.{Board}
 use Rattle.board.specs.Board.{Left, line_step}
 use Rattle.console.specs.Console.{Reply, Session, played, groups_in, reading_of}
-use Rattle.shed.specs.declared.Played.{Played}
 pub mod Laws
 
 -- an event: code, place, reading high, low
@@ -16,7 +15,3 @@ reply_of block board group =
 -- the events of the input, four bytes each; a short last group is dropped
 abbrev pub session_of : List ℕ → Board → List ℕ → Session Board
 session_of block board input = played reply_of block board (groups_in 4 input)
-
--- as the code returns it: how much is printed stands for the text
-abbrev pub played_in : Session Board → Played
-played_in s = record { board = s.back; printed = length s.text; accepted = s.accepted }
