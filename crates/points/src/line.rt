@@ -14,11 +14,9 @@ pub struct Line {
 // A new tag, the one that source document 000 shows on its first page, as an L.
 pub(crate) fn begin(image: &mut [u8]) -> Line {
     let made = tag::new(image, 0xA1000000FBC52B41, 0x40);
-    let tag = made.tag;
-    let answer = made.answer;
     Line {
-        tag,
-        right: answer::number(answer) == 0,
+        tag: made.tag,
+        right: made.answer.is_ok(),
     }
 }
 

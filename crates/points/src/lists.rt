@@ -3,7 +3,7 @@ ghost use Rattle.std.specs.Prelude.{◌≤◌};
 
 use crate::line::Line;
 use crate::session::number;
-use answer::Answer;
+use answer::Refusal;
 use image::peek;
 
 // Gives the words to the tag in one call, and compares what it leaves with the line's eight digits and its reply bytes.
@@ -53,7 +53,7 @@ fn words_at(text: &[u8]) -> [u16; 32] {
 }
 
 // Whether the eight digits say so. A line has room for 31 words and 31 reply bytes.
-fn is_answer(head: u64, answer: Answer, done: usize) -> bool {
+fn is_answer(head: u64, answer: Result<(), Refusal>, done: usize) -> bool {
     let counts = (head / 0x1000000 < 32) & (head / 0x10000 % 256 < 32);
     counts & (head % 0x10000 == answer::number(answer) as u64 * 256 + (done % 256) as u64)
 }

@@ -47,13 +47,13 @@ fn crc_points(stdout: Stdout) {
 }
 
 fn point(stdout: Stdout, name: &[u8], right: bool) {
-    console::print(stdout, name, name.len());
+    console::print(stdout, name);
     verdict(stdout, right);
 }
 
 fn verdict(stdout: Stdout, right: bool) {
     let words: &[u8] = if right { b": ok\n" } else { b": WRONG\n" };
-    console::print(stdout, words, words.len());
+    console::print(stdout, words);
 }
 
 // Plays the sessions, each to a new tag. A part is performed at its first character; the others are passed over.
@@ -76,7 +76,7 @@ fn run(stdout: Stdout, input: &[u8], image: &mut [u8], store: &mut [u8]) {
 // Prints a character of a point's name. Where a point begins, the one before is judged.
 fn print(stdout: Stdout, c: u8, reads: u8, any: bool, right: bool) {
     if (reads == NAME) & (c != b'\n') {
-        console::print(stdout, &[c], 1);
+        console::print(stdout, &[c]);
     }
     if (reads == PART) & (c == b':') & any {
         verdict(stdout, right);
