@@ -20,10 +20,10 @@ pub trait Plays<const N: usize> {
     ghost reply: { List ℕ → Self.Record → List ℕ → Reply Self.Record };
 
     // The line bit, or why the event is refused.
-    fn event(record: &mut Self::Record, lent: &mut [u8], group: &[u8; N]) -> Result<bool, Refusal>
-        ensures answer { Answers (reply lent.old record.old group.now) result }
-        ensures record_after { record.new ≡ (reply lent.old record.old group.now).back }
-        ensures lent_after { lent.new ≡ (reply lent.old record.old group.now).lent };
+    fn event(back: &mut Self::Record, lent: &mut [u8], group: &[u8; N]) -> Result<bool, Refusal>
+        ensures answer { Answers (reply lent.old back.old group.now) result }
+        ensures back_after { back.new ≡ (reply lent.old back.old group.now).back }
+        ensures lent_after { lent.new ≡ (reply lent.old back.old group.now).lent };
 
     // A group is no shorter than a line bit's text, and no longer than what is read at once.
     ghost sized: { (2 ≤ N) × (N ≤ 65536) };
@@ -43,10 +43,10 @@ struct Played {
 pub fn play<const N: usize, P: Plays<N>>(
     stdin: Stdin,
     stdout: Stdout,
-    record: &mut P::Record,
+    back: &mut P::Record,
     lent: &mut [u8],
 )
-    ensures { Leaves P.reply lent.old record.old lent.new record.new }
+    ensures { Leaves P.reply lent.old back.old lent.new back.new }
 {
     let mut input = [0u8; 65536];
     let mut out = [0u8; 65536];
@@ -54,7 +54,7 @@ pub fn play<const N: usize, P: Plays<N>>(
     for _ in 0..u64::MAX {
         let begun = move_begun(&mut input, held, N);
         held = read_behind(stdin, &mut input, begun);
-        let played = play_groups::<N, P>(record, lent, &input[..held], &mut out);
+        let played = play_groups::<N, P>(back, lent, &input[..held], &mut out);
         let text = &out[..played.printed.min(65536)];
         if held == begun || !print(stdout, text) || played.answer.is_err() {
             return;
@@ -64,21 +64,21 @@ pub fn play<const N: usize, P: Plays<N>>(
 
 // Plays the whole groups. What they print goes to the start of `out`, as much of it as there is room for.
 fn play_groups<const N: usize, P: Plays<N>>(
-    record: &mut P::Record,
+    back: &mut P::Record,
     lent: &mut [u8],
     input: &[u8],
     out: &mut [u8],
 ) -> Played
-    ensures printed { result.printed ≡ length (played P.reply lent.old record.old (groups_in N input.now)).text }
-    ensures accepted { is_ok result.answer ≡ (played P.reply lent.old record.old (groups_in N input.now)).accepted }
-    ensures record_after { record.new ≡ (played P.reply lent.old record.old (groups_in N input.now)).back }
-    ensures lent_after { lent.new ≡ (played P.reply lent.old record.old (groups_in N input.now)).lent }
-    ensures out_after { out.new ≡ sets out.old 0 (played P.reply lent.old record.old (groups_in N input.now)).text }
+    ensures printed { result.printed ≡ length (played P.reply lent.old back.old (groups_in N input.now)).text }
+    ensures accepted { is_ok result.answer ≡ (played P.reply lent.old back.old (groups_in N input.now)).accepted }
+    ensures back_after { back.new ≡ (played P.reply lent.old back.old (groups_in N input.now)).back }
+    ensures lent_after { lent.new ≡ (played P.reply lent.old back.old (groups_in N input.now)).lent }
+    ensures out_after { out.new ≡ sets out.old 0 (played P.reply lent.old back.old (groups_in N input.now)).text }
 {
     let mut printed = 0;
     let mut rest = input;
     while let Some((group, behind)) = rest.split_first_chunk::<N>() {
-        match P::event(record, lent, group) {
+        match P::event(back, lent, group) {
             Ok(line) => printed += put_answer(out, printed, Ok(line)),
             Err(refusal) => {
                 printed += put_answer(out, printed, Err(u8::from(refusal)));

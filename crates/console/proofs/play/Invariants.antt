@@ -3,4 +3,4 @@ use Rattle.console.proofs.Console.Laws.{Reached}
 use Rattle.console.proofs.play.Given as goal
 
 abbrev pub invariant-loop : goal.invariant-loop
-invariant-loop g l = Reached g.P.Plays.reply l.initial.lent l.initial.record l.lent l.record
+invariant-loop g l = Reached g.P.Plays.reply l.initial.lent l.initial.back l.lent l.back

@@ -5,7 +5,7 @@ use Rattle.console.proofs.Console.Laws.{Put, answer_length, playing_none, playin
 use Rattle.console.proofs.play_groups.Goals as goal
 
 pub loop-group-init : goal.loop-group-init
-loop-group-init g c = playing_none g.P.Plays.reply g.row.N c.args.lent.now c.args.record.now c.args.input.now c.args.out.now
+loop-group-init g c = playing_none g.P.Plays.reply g.row.N c.args.lent.now c.args.back.now c.args.input.now c.args.out.now
 
 pub split_first_chunk-requires : goal.split_first_chunk-requires
 split_first_chunk-requires g c = let n = g.met.P.Plays.sized.1 in omega (arith, n)
@@ -36,12 +36,12 @@ overflow_add-printed-in-Err g c =
 
 pub loop-group-preserved : goal.loop-group-preserved
 loop-group-preserved g c =
-    playing_one g.P.Plays.reply g.row.N c.args.lent.now c.args.record.now c.args.input.now c.args.out.now g.met.P.Plays.sized.0 c.loop-group.invariant
+    playing_one g.P.Plays.reply g.row.N c.args.lent.now c.args.back.now c.args.input.now c.args.out.now g.met.P.Plays.sized.0 c.loop-group.invariant
     record {
       first = c.in-Some.ensures.cases;
       answers = c.in-Ok.ensures.answer;
       lent_after = c.in-Ok.ensures.lent_after;
-      back_after = c.in-Ok.ensures.record_after;
+      back_after = c.in-Ok.ensures.back_after;
       out_after = c.put_answer-printed.ensures.out_after;
       value = c.put_answer-printed.ensures.value;
     }
@@ -49,19 +49,19 @@ loop-group-preserved g c =
 pub returns-in-Err : goal.returns-in-Err
 returns-in-Err g c =
     let all =
-    playing_refused g.P.Plays.reply g.row.N c.args.lent.now c.args.record.now c.args.input.now c.args.out.now g.met.P.Plays.sized.0 c.loop-group.invariant
+    playing_refused g.P.Plays.reply g.row.N c.args.lent.now c.args.back.now c.args.input.now c.args.out.now g.met.P.Plays.sized.0 c.loop-group.invariant
     record {
       first = c.in-Some.ensures.cases;
       answers = c.in-Err.ensures.answer;
       lent_after = c.in-Err.ensures.lent_after;
-      back_after = c.in-Err.ensures.record_after;
+      back_after = c.in-Err.ensures.back_after;
       out_after = rw c.from.ensures at c.put_answer-printed-in-Err.ensures.out_after;
       value = rw c.from.ensures at c.put_answer-printed-in-Err.ensures.value;
     } in
     record {
       printed = ap (λ (p : Put g.row.P-Record.Denot). p.printed) all;
       accepted = ap (λ (p : Put g.row.P-Record.Denot). p.accepted) all;
-      record_after = ap (λ (p : Put g.row.P-Record.Denot). p.back) all;
+      back_after = ap (λ (p : Put g.row.P-Record.Denot). p.back) all;
       lent_after = ap (λ (p : Put g.row.P-Record.Denot). p.lent) all;
       out_after = ap (λ (p : Put g.row.P-Record.Denot). p.out) all;
     }
@@ -69,11 +69,11 @@ returns-in-Err g c =
 pub returns : goal.returns
 returns g c =
     let all =
-    playing_all g.P.Plays.reply g.row.N c.args.lent.now c.args.record.now c.args.input.now c.args.out.now c.loop-group.invariant c.in_default.ensures.cases in
+    playing_all g.P.Plays.reply g.row.N c.args.lent.now c.args.back.now c.args.input.now c.args.out.now c.loop-group.invariant c.in_default.ensures.cases in
     record {
       printed = ap (λ (p : Put g.row.P-Record.Denot). p.printed) all;
       accepted = ap (λ (p : Put g.row.P-Record.Denot). p.accepted) all;
-      record_after = ap (λ (p : Put g.row.P-Record.Denot). p.back) all;
+      back_after = ap (λ (p : Put g.row.P-Record.Denot). p.back) all;
       lent_after = ap (λ (p : Put g.row.P-Record.Denot). p.lent) all;
       out_after = ap (λ (p : Put g.row.P-Record.Denot). p.out) all;
     }
