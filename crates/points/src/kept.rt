@@ -1,15 +1,14 @@
 // An image remembered, to see later that nothing but the clock has moved.
 use image::{peek, poke};
 
-// Whether every byte is as remembered, but for the clock's six, 0200h-0205h. A new image is remembered first.
-pub(crate) fn is_kept(image: &[u8], store: &mut [u8], is_new: bool) -> bool {
-    let mut same = true;
+// Remembers the image.
+pub(crate) fn keep(image: &[u8], store: &mut [u8]) {
     for i in 0..8832 {
-        let byte = peek(image, i);
-        let kept = if is_new { byte } else { peek(store, i) };
-        poke(store, i, kept);
-        let is_clock = (0x0200 <= i) & (i <= 0x0205);
-        same = same & (is_clock | (kept == byte));
+        poke(store, i, peek(image, i));
     }
-    same
+}
+
+// Whether every byte is as remembered, but for the clock's six, 0200h-0205h.
+pub(crate) fn is_kept(image: &[u8], store: &[u8]) -> bool {
+    (0..8832).all(|i| (0x0200..=0x0205).contains(&i) || peek(image, i) == peek(store, i))
 }

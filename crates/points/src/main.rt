@@ -1,10 +1,9 @@
 // The points of document 01 and of the change requests that are run and compared. Standard input has them: a name, and a session
 // that is played to a new tag. For each, a line says whether all of it came as expected. The published CRC examples come first.
-// Tests are joined by & where nothing has to follow from the first: && is a branch, and each branch makes the check longer.
 #![tactic(auto)]
 
 use image::peek;
-use session::{NAME, PART};
+use session::Reads;
 use std::io::Stdout;
 
 mod kept;
@@ -58,27 +57,33 @@ fn verdict(stdout: Stdout, right: bool) {
 
 // Plays the sessions, each to a new tag. A part is performed at its first character; the others are passed over.
 fn run(stdout: Stdout, input: &[u8], image: &mut [u8], store: &mut [u8]) {
-    let mut line = line::begin(image);
+    let mut tag = record::fresh(0, 0);
+    let mut right = line::begin(&mut tag, image);
     let mut any = false;
-    let mut reads = PART;
+    let mut reads = Reads::Part;
     for i in 0..input.len() {
         let text = &input[i..];
-        print(stdout, peek(text, 0), reads, any, line.right);
-        line = line::perform(image, store, line, text, reads);
+        let c = peek(text, 0);
+        match reads {
+            Reads::Name if c != b'\n' => {
+                console::print(stdout, &[c]);
+            }
+            Reads::Part => {
+                if c == b':' {
+                    // Where a point begins, the one before is judged.
+                    if any {
+                        verdict(stdout, right);
+                    }
+                    any = true;
+                    right = true;
+                }
+                right = line::perform(&mut tag, image, store, text) & right;
+            }
+            _ => {}
+        }
         reads = session::after(reads, text);
-        any = any | (reads == NAME);
     }
     if any {
-        verdict(stdout, line.right);
-    }
-}
-
-// Prints a character of a point's name. Where a point begins, the one before is judged.
-fn print(stdout: Stdout, c: u8, reads: u8, any: bool, right: bool) {
-    if (reads == NAME) & (c != b'\n') {
-        console::print(stdout, &[c]);
-    }
-    if (reads == PART) & (c == b':') & any {
         verdict(stdout, right);
     }
 }

@@ -20,13 +20,18 @@
 //   K           the image is as remembered but for the clock
 use image::peek;
 
-// How a character is read: as the first of a part; as another one of it, by how many are left, 8 to 1; as one of a name; as one of a
-// line that is passed over.
-pub const PART: u8 = 0;
-
-pub const NAME: u8 = 9;
-
-pub const LINE: u8 = 10;
+// How a character is read.
+#[derive(Clone, Copy, PartialEq, Eq)]
+pub enum Reads {
+    // As the first of a part.
+    Part,
+    // As another one of it, behind which so many are left.
+    Rest(u8),
+    // As one of a name.
+    Name,
+    // As one of a line that is passed over.
+    Line,
+}
 
 // Events that are alike but for their line bits, which are those of `bits`, low bit first, again and again. Code 0 sends them.
 #[derive(Drop)]
@@ -34,120 +39,123 @@ pub struct Calls {
     pub code: u8,
     pub reading: u16,
     pub bits: u8,
-    // The number of each one's answer.
+    // The number of each one's answer, as the text has it: any, also one that is none.
     pub number: u8,
     pub count: u16,
 }
 
 // How the character behind the text's first one is read.
-pub(crate) fn after(reads: u8, text: &[u8]) -> u8 {
+pub(crate) fn after(reads: Reads, text: &[u8]) -> Reads {
     let c = peek(text, 0);
     if c == b'\n' {
-        return PART;
+        return Reads::Part;
     }
-    if reads >= NAME {
-        return reads;
+    match reads {
+        Reads::Part => begun(c, text),
+        Reads::Rest(0) => Reads::Part,
+        Reads::Rest(left) => Reads::Rest(left.saturating_sub(1)),
+        Reads::Name => Reads::Name,
+        Reads::Line => Reads::Line,
     }
-    if reads > 0 {
-        return reads - 1;
-    }
+}
+
+// The same behind a part's first character.
+fn begun(c: u8, text: &[u8]) -> Reads {
     match c {
-        b':' => NAME,
-        b'#' | b'L' | b'I' => LINE,
-        b'T' | b'!' => 8,
+        b':' => Reads::Name,
+        b'#' | b'L' | b'I' => Reads::Line,
+        b'T' | b'!' => Reads::Rest(7),
         b'=' => to_end(text, 2),
-        b'?' => 1,
-        _ => {
-            if digit(c) > 15 {
-                return PART;
-            }
-            to_end(text, 1)
-        }
+        b'?' => Reads::Rest(0),
+        b'0'..=b'9' | b'A'..=b'F' => to_end(text, 1),
+        _ => Reads::Part,
     }
 }
 
-// How many characters a byte has behind its first one: its digits, and an X with its own.
-fn to_end(text: &[u8], digits: u8) -> u8 {
-    if peek(text, digits as usize + 1) == b'X' {
-        digits % 8 + 3
+// A byte has so many characters behind its first one: its digits, and an X with its own.
+fn to_end(text: &[u8], digits: u8) -> Reads {
+    if peek(text, usize::from(digits) + 1) == b'X' {
+        Reads::Rest(digits % 8 + 2)
     } else {
-        digits
+        Reads::Rest(digits.saturating_sub(1))
     }
 }
 
-// The calls of the part that the text begins with.
-pub(crate) fn calls_at(text: &[u8]) -> Calls {
-    let c = peek(text, 0);
-    match c {
-        b'R' => alike(2, 0, 0, 0, 1),
-        b'O' => alike(4, 0, 0, 0, 1),
-        b'N' => alike(4, 0, 1, 0, 1),
-        b'=' => alike(1, 0, number(text, 1, 2), 0, slots(text, 3)),
-        b'+' => alike(1, 0, 1, 0, 1),
-        b'-' => alike(0, 0, 0, 0, 1),
-        b'?' => alike(1, 0, number(text, 1, 1), 0, 1),
+// The calls of the part that the text begins with, if no digit is missing.
+pub(crate) fn calls_at(text: &[u8]) -> Option<Calls> {
+    match peek(text, 0) {
+        b'R' => Some(alike(2, 0, 1)),
+        b'O' => Some(alike(4, 0, 1)),
+        b'N' => Some(alike(4, 1, 1)),
+        b'=' => Some(alike(1, number(text, 1, 2)?, slots(text, 3)?)),
+        b'+' => Some(alike(1, 1, 1)),
+        b'-' => Some(alike(0, 0, 1)),
+        b'?' => Some(alike(1, number(text, 1, 1)?, 1)),
         b'T' => {
-            let n = number(text, 1, 8);
-            alike(3, n / 65536, 0xFF, 0, n % 65536)
+            let n = number(text, 1, 8)?;
+            let reading = (n / 0x10000) as u16;
+            let count = (n % 0x10000) as u16;
+            Some(Calls {
+                reading,
+                ..alike(3, 0xFF, count)
+            })
         }
         b'!' => {
-            let n = number(text, 1, 8);
-            alike(
-                n / 0x1000000,
-                n / 256 % 65536,
-                n / 0x1000000 % 2,
-                n % 256,
-                1,
-            )
+            let n = number(text, 1, 8)?;
+            let code = (n / 0x1000000) as u8;
+            Some(Calls {
+                reading: (n / 0x100 % 0x10000) as u16,
+                number: (n % 0x100) as u8,
+                ..alike(code, u32::from(code % 2), 1)
+            })
         }
-        _ => alike(0, 0, number(text, 0, 2), 0, slots(text, 2)),
+        _ => Some(alike(0, number(text, 0, 2)?, slots(text, 2)?)),
     }
 }
 
-// Calls with these numbers; where a digit was missing, one event with an answer that there is not.
-fn alike(code: u64, reading: u64, bits: u64, number: u64, count: u64) -> Calls {
-    if (code > 0xFF) | (reading > 0xFFFF) | (bits > 0xFF) | (count > 0xFFFF) {
-        return Calls {
-            code: 0xFF,
-            reading: 0,
-            bits: 0,
-            number: 0xFF,
-            count: 1,
-        };
-    }
+// Accepted calls with the reading 0.
+fn alike(code: u8, bits: u32, count: u16) -> Calls {
     Calls {
-        code: (code % 256) as u8,
-        reading: (reading % 65536) as u16,
-        bits: (bits % 256) as u8,
-        number: (number % 256) as u8,
-        count: (count % 65536) as u16,
+        code,
+        reading: 0,
+        bits: (bits % 0x100) as u8,
+        number: 0,
+        count,
     }
 }
 
 // The slots of a byte whose digits end before `at`: eight, or eight times the number of an X there.
-fn slots(text: &[u8], at: u8) -> u64 {
-    if peek(text, at as usize) == b'X' {
-        8 * (number(text, at as u16 + 1, 2) % 0x1000000000000000)
-    } else {
-        8
+fn slots(text: &[u8], at: usize) -> Option<u16> {
+    if peek(text, at) != b'X' {
+        return Some(8);
     }
+    let bytes = number(text, at.saturating_add(1), 2)?;
+    Some(8 * (bytes % 0x100) as u16)
 }
 
-// The number that the digits at `at` are, eight at most. Where one is missing, it is above what eight digits can be.
-pub(crate) fn number(text: &[u8], at: u16, digits: u8) -> u64 {
+// The number that the digits at `at` are, eight at most, if none is missing.
+pub(crate) fn number(text: &[u8], at: usize, digits: usize) -> Option<u32> {
+    for i in 0..digits {
+        digit(peek(text, at.saturating_add(i)))?;
+    }
+    Some(value(text, at, digits))
+}
+
+// The same with each missing one as 0.
+pub(crate) fn value(text: &[u8], at: usize, digits: usize) -> u32 {
     let mut value = 0;
     for i in 0..digits {
-        let c = peek(text, at as usize + i as usize);
-        value = value % 0x400000000000000 * 16 + digit(c) % 0x400000000;
+        let digit = digit(peek(text, at.saturating_add(i))).unwrap_or(0);
+        value = value % 0x10000000 * 16 + u32::from(digit % 16);
     }
     value
 }
 
-// What a digit stands for. Any other character is worth so much that its number stays above eight digits.
-fn digit(c: u8) -> u64 {
+// What a digit stands for.
+fn digit(c: u8) -> Option<u8> {
     match c {
-        b'0'..=b'9' => (c - b'0') as u64,
-        b'A'..=b'F' => (c - b'A' + 10) as u64,
-        _ => 0x200000000,
+        b'0'..=b'9' => Some(c - b'0'),
+        b'A'..=b'F' => Some(c - b'A' + 10),
+        _ => None,
     }
 }
