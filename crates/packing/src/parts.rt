@@ -1,14 +1,16 @@
 // The parts of a record, each out of the 80 bytes that it is packed into, by the offsets of include/bagtag.h. Every function answers a
 // slice of any length: what lies past its end reads as 0.
-ghost use Rattle.std.specs.Prelude.{◌≡◌};
+ghost use Rattle.std.specs.Prelude.{◌≡◌, ◌+◌};
 ghost use Rattle.image.specs.Fields.{word_at};
-ghost use Rattle.packing.specs.Packing.{counters_in, exchange_in, select_in, choosing_in, held_in, bytes_from, bus_in, stage_in};
+ghost use Rattle.packing.specs.Packing.{counters_in, exchange_in, select_in, codes_at, held_in, bytes_from, bus_in};
 
-use crate::{Coded, codes, stages};
-use bus::{Bus, Held};
+use crate::Coded;
+use crate::codes::{self, Numbered};
+use bus::{Bus, Held, Stage};
 use exchange::Exchange;
 use mission::Counters;
-use select::Select;
+use select::{Choosing, Mode, Select};
+use std::array;
 
 #[tactic(auto, unfolding(crate::specs::Packing::counters_in))]
 pub(crate) fn counters(lent: &[u8]) -> Counters
@@ -36,23 +38,24 @@ pub(crate) fn exchange(lent: &[u8]) -> Exchange
     }
 }
 
-#[tactic(auto, unfolding(crate::specs::Packing::select_in))]
+#[tactic(auto, unfolding(crate::specs::Packing::select_in, crate::specs::Packing::choosing_in))]
 fn select(lent: &[u8]) -> Select
     ensures { result ≡ select_in lent.now }
 {
-    let choosing = codes::choosing_of(choosing(lent));
-    let mode = codes::mode_of(image::peek(lent, 3));
+    let choosing = Choosing::from_number(coded_at(lent, 4));
+    let mode = Mode::from_number(image::peek(lent, 3));
     Select { choosing, mode }
 }
 
-#[tactic(auto, unfolding(crate::specs::Packing::choosing_in))]
-pub(crate) fn choosing(lent: &[u8]) -> Coded
-    ensures { result ≡ choosing_in lent.now }
+// The three numbers of an enum, from a place on.
+pub(crate) fn coded_at(lent: &[u8], at: u8) -> Coded
+    ensures { result ≡ codes_at lent.now at (at + 1) (at + 2) }
 {
+    let at = usize::from(at);
     codes::coded(
-        image::peek(lent, 4),
-        image::peek(lent, 5),
-        image::peek(lent, 6),
+        image::peek(lent, at),
+        image::peek(lent, at + 1),
+        image::peek(lent, at + 2),
     )
 }
 
@@ -65,28 +68,22 @@ fn held(lent: &[u8]) -> Held
         pad,
         ta: word16(lent, 18),
         ending: image::peek(lent, 13),
-        pf: image::peek(lent, 14) == 1,
-        aa: image::peek(lent, 15) == 1,
+        pf: bool::from_number(image::peek(lent, 14)),
+        aa: bool::from_number(image::peek(lent, 15)),
     }
 }
 
 fn pad(lent: &[u8]) -> [u8; 32]
     ensures { result ≡ bytes_from lent.now 48 32 }
 {
-    let mut pad = [0u8; 32];
-    let mut i = 0;
-    while i < 32 {
-        pad[i] = image::peek(lent, 48 + i);
-        i += 1;
-    }
-    pad
+    array::from_fn(|i| image::peek(lent, 48 + i))
 }
 
-#[tactic(auto, unfolding(crate::specs::Packing::bus_in))]
+#[tactic(auto, unfolding(crate::specs::Packing::bus_in, crate::specs::Packing::stage_in))]
 fn bus(lent: &[u8]) -> Bus
     ensures { result ≡ bus_in lent.now }
 {
-    let stage = stages::stage_of(stage(lent));
+    let stage = Stage::from_number(coded_at(lent, 7));
     Bus {
         stage,
         byte: image::peek(lent, 10),
@@ -98,22 +95,8 @@ fn bus(lent: &[u8]) -> Bus
     }
 }
 
-#[tactic(auto, unfolding(crate::specs::Packing::stage_in))]
-pub(crate) fn stage(lent: &[u8]) -> Coded
-    ensures { result ≡ stage_in lent.now }
-{
-    codes::coded(
-        image::peek(lent, 7),
-        image::peek(lent, 8),
-        image::peek(lent, 9),
-    )
-}
-
 fn word16(lent: &[u8], at: usize) -> u16
     ensures { result ≡ word_at lent.now at 2 }
 {
-    if lent.len() <= at {
-        return 0;
-    }
     image::word(lent, at, 2) as u16
 }

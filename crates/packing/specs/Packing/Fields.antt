@@ -1,6 +1,8 @@
 -- The laws of packing, over a field: what is packed stands at its offset, and bytes are what the numbers in them pack to. Assumes nothing.
 use Rattle.std.specs.Prelude.{◌≡◌, refl, List, [], ◌∷◌, ◌++◌, map, ℕ, zero, suc, ◌+◌, ◌*◌, ◌/◌, ◌%◌, ◌^◌, ◌<◌, length, get_or}
-use Rattle.std.proofs.Common.{◌∙◌, ap, append_assoc, add-zero, zero-add, add-suc, suc-add, pow-suc, arith, length-append, get_or-append-add}
+use Rattle.std.specs.Int.{byte_at, bytes_low_first}
+use Rattle.std.proofs.Math.Nat.{div-div-eq-div-mul}
+use Rattle.std.proofs.Common.{◌∙◌, sym, ap, append_assoc, add-zero, zero-add, add-suc, suc-add, pow-suc, arith, length-append, get_or-append-add}
 use Rattle.std.proofs.lemmas.List.Edits.{sets}
 use Rattle.bits.specs.Bytes.{Bytes}
 use Rattle.bits.specs.Stores.{sets_join}
@@ -14,6 +16,22 @@ length_low : (width n : ℕ) → length (low_first width n) ≡ width
 unfolding low_first
 length_low zero n = refl
 length_low (suc width) n = ap suc (length_low width (n / 256))
+
+-- as the library has them
+byte_is : (i n : ℕ) → byte_at i n ≡ n / 256 ^ i % 256
+byte_is zero n = omega arith
+byte_is (suc i) n = refl
+
+low_at : (i k n : ℕ) → bytes_low_first i k n ≡ low_first k (n / 256 ^ i)
+unfolding low_first
+low_at i zero n = refl
+low_at i (suc k) n =
+    let next : n / 256 ^ suc i ≡ n / 256 ^ i / 256 = ap (λ (m : ℕ). n / m) (pow-suc 256 i) ∙ sym (div-div-eq-div-mul n (256 ^ i) 256) in
+    let rest = low_at (suc i) k n ∙ ap (low_first k) next in
+    λ j. byte_is i n j ∷ rest j
+
+pub low_le : (k n : ℕ) → low_first k n ≡ bytes_low_first 0 k n
+low_le k n = let whole : n / 256 ^ 0 ≡ n = omega arith in sym (low_at 0 k n ∙ ap (low_first k) whole)
 
 -- a word of one byte
 pub word_one : (lent : List ℕ) (at : ℕ) → word_at lent at 1 ≡ get_or lent at 0
@@ -139,6 +157,12 @@ pub length_bytes : (l : List ℕ) (at n : ℕ) → length (bytes_from l at n) �
 unfolding bytes_from
 length_bytes l at zero = refl
 length_bytes l at (suc n) = ap suc (length_bytes l (suc at) n)
+
+pub get_bytes : (l : List ℕ) (at n i : ℕ) → i < n → get_or (bytes_from l at n) i 0 ≡ get_or l (at + i) 0
+unfolding bytes_from
+get_bytes l at zero i h = absurd (omega arith)
+get_bytes l at (suc n) zero h = ap (λ (k : ℕ). get_or l k 0) (sym (add-zero at))
+get_bytes l at (suc n) (suc i) h = get_bytes l (suc at) n i (omega arith) ∙ ap (λ (k : ℕ). get_or l k 0) (suc-add at i ∙ sym (add-suc at i))
 
 pub bytes_past : (bytes rest : List ℕ) (at n : ℕ) → bytes_from (bytes ++ rest) (length bytes + at) n ≡ bytes_from rest at n
 unfolding bytes_from
