@@ -1,12 +1,16 @@
 -- `rack::tag_at` meets its contract. Assumes nothing.
-use mathlib.Core.Path.{sym, ap, ◌∙◌}
-use native.Mathlib.Omega.{arith}
+use Rattle.std.proofs.Common.{sym, ap, ◌∙◌, ℕ, ◌+◌, ◌*◌, arith}
+use Rattle.std.specs.List.{slice_range}
 use Rattle.packing.specs.Packing.{unpacked}
 use Rattle.rack.specs.Rack.Laws.{part_is, none_there}
 use Rattle.rack.proofs.tag_at.Goals as goal
 
-pub returns-then-records-from : goal.returns-then-records-from
-returns-then-records-from c = c.fresh.ensures ∙ sym (none_there _ _ (omega (arith, c.if-records-from.true)))
+pub returns-in-Some : goal.returns-in-Some
+returns-in-Some c =
+    let records = c.args.records.now in
+    let part = c.in-Some.ensures.lookup.0.2 in
+    c.unpack.ensures
+    ∙ ap unpacked (part ∙ ap (λ (n : ℕ). slice_range records (n * 80) (n * 80 + 80)) c.from-from.ensures ∙ part_is records c.args.place)
 
-pub returns : goal.returns
-returns c = c.unpack.ensures ∙ ap unpacked (part_is _ _)
+pub returns-in-None : goal.returns-in-None
+returns-in-None c = c.fresh.ensures ∙ sym (none_there _ _ (omega (arith, c.in-None.ensures.lookup.0)))

@@ -7,5 +7,4 @@ use Rattle.rack.proofs.whole.Goals as goal
 pub returns : goal.returns
 unfolding whole_in
 returns c =
-    let few = c.least-few in
-    omega (arith, c.least.ensures, c.places.ensures, few.ensures, places_some c.args.count)
+    omega (arith, c.min.ensures, c.from.ensures, c.places.ensures, c.min-few.ensures, places_some c.args.count)
