@@ -32,15 +32,15 @@ FAULTS = (
         "wait: image::word(lent, 32, 8)": "wait: image::word(lent, 40, 8)",
         "field: image::word(lent, 40, 8)": "field: image::word(lent, 32, 8)"}),
     Fault("numbers of two bytes high byte first, in packing and unpacking", PACKING, {
-        "[(n % 256) as u8, (n / 256 % 256) as u8]": "[(n / 256 % 256) as u8, (n % 256) as u8]",
+        "n < 256 ^ 2 }\n{\n    n.to_le_bytes()": "n < 256 ^ 2 }\n{\n    n.to_be_bytes()",
         "image::word(lent, at, 2) as u16": "(image::word(lent, at + 1, 1) + 256 * image::word(lent, at, 1)) as u16"}),
     Fault("mark 2 and overdrive 1, in packing and unpacking", PACKING, {
         "Mode::Marked => 1": "Mode::Marked => 2", "Mode::Overdrive => 2": "Mode::Overdrive => 1",
         "1 => Mode::Marked": "2 => Mode::Marked", "2 => Mode::Overdrive,": "1 => Mode::Overdrive,"}),
-    Fault("any version", PACKING, {"image::peek(lent, 0) != VERSION": "image::peek(lent, 0) == 0"}),
-    Fault("any byte for PF", PACKING, {"codes::is_flag(image::peek(lent, 14)) && ": ""}),
-    Fault("any numbers for a stage", PACKING, {"!stages::is_stage(parts::stage(lent))": "lent.len() == 0"}),
-    Fault("a byte read past the record", PACKING, {"image::peek(lent, 0) != VERSION": "lent[0] != VERSION || lent[80] == 77"}),
+    Fault("any version", PACKING, {"image::peek(lent, 0) == VERSION": "image::peek(lent, 0) != 0"}),
+    Fault("any byte for PF", PACKING, {"        && codes::is_own::<bool>(image::peek(lent, 14))\n": ""}),
+    Fault("any numbers for a stage", PACKING, {"codes::is_own::<Stage>(parts::coded_at(lent, 7))": "lent.len() != 0"}),
+    Fault("a byte read past the record", PACKING, {"image::peek(lent, 0) == VERSION": "lent[0] == VERSION && lent[80] != 77"}),
     Fault("the line left as it was by a refusal", BAGTAG, {"    *line = 1;\n": ""}),
     Fault("the record changed by a refused reading", BAGTAG, {
         "packing::pack(lent, answered.tag);\n    *line": "packing::pack(lent, answered.tag);\n"
@@ -59,7 +59,7 @@ FAULTS = (
         "(head, 8, 4, listing.held": "(head, 0, 4, listing.held", "(head, 12, 4, ": "(head, 8, 4, ",
         "(head, 0, 4, listing.held": "(head, 12, 4, listing.held"}),
     Fault("a line's records packed the other way round", LINE, {
-        "pack_from(records, i * RECORD, ": "pack_from(records, (end - 1 - i) * RECORD, "}),
+        "pack_from(records, place * RECORD, ": "pack_from(records, (board::places(board.count) - 1 - place) * RECORD, "}),
     Fault("records that are no line's refused with 6, whatever their numbers", LINE, {
         "block.len(), same, false, ": "block.len(), same && false, false, "}),
     Fault("the number compared of a record that is not wholly there", LINE, {"(few / 80)": "((few + 40) / 80)"}),

@@ -1,5 +1,6 @@
 // The parts of a record, each out of the 80 bytes that it is packed into, by the offsets of include/bagtag.h. Every function answers a
-// slice of any length: what lies past its end reads as 0.
+// slice of any length: what lies past its end reads as 0. Functions, not `From`: the structs are other crates' (orphan-impl). An offset
+// stands beside `lent` and in no struct with it, as in `image`, which reads both: a struct would be taken apart at each call.
 ghost use Rattle.std.specs.Prelude.{◌≡◌, ◌+◌};
 ghost use Rattle.image.specs.Fields.{word_at};
 ghost use Rattle.packing.specs.Packing.{counters_in, exchange_in, select_in, codes_at, held_in, bytes_from, bus_in};
