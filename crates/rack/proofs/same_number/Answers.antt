@@ -1,16 +1,10 @@
 -- `rack::same_number` meets its contract. Assumes nothing.
-use mathlib.Core.List.{List}
-use mathlib.Core.Path.{◌≡◌, sym, ap, ◌∙◌}
-use Prim.Native.Nat.{ℕ, ◌≤◌}
-use native.Mathlib.Omega.{arith}
-use lib.ListN.{length, get_or, take}
-use lib.Seq.{length-take-le}
+use Rattle.std.proofs.Common.{List, ◌≡◌, sym, ap, ◌∙◌, refl, ℕ, ◌≤◌, length, get_or, take, length-take-le, rules, arith}
 use Rattle.board.specs.Board.{same_number}
 use Rattle.board.specs.Board.Reading.{same_read}
+use Rattle.packing.specs.Arrays.{made_is}
 use Rattle.rack.specs.Rack.{seven, number_held, whole_in, same_held}
 use Rattle.rack.specs.Rack.Laws.{seven_at, whole_some}
-use Rattle.packing.specs.Arrays.{made_is}
-use Rattle.std.proofs.Common.{rules, refl}
 use Rattle.rack.proofs.same_number.Goals as goal
 
 -- as many are there as a board has places, at most

@@ -1,5 +1,5 @@
 -- `rack::whole` meets its contract. Assumes nothing.
-use native.Mathlib.Omega.{arith}
+use Rattle.std.proofs.Common.{arith}
 use Rattle.board.specs.Board.Laws.{places_some}
 use Rattle.rack.specs.Rack.{whole_in}
 use Rattle.rack.proofs.whole.Goals as goal
