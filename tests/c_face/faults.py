@@ -32,7 +32,8 @@ FAULTS = (
         "wait: image::word(lent, 32, 8)": "wait: image::word(lent, 40, 8)",
         "field: image::word(lent, 40, 8)": "field: image::word(lent, 32, 8)"}),
     Fault("numbers of two bytes high byte first, in packing and unpacking", PACKING, {
-        "n < 256 ^ 2 }\n{\n    n.to_le_bytes()": "n < 256 ^ 2 }\n{\n    n.to_be_bytes()",
+        "&reading.to_le_bytes()": "&reading.to_be_bytes()", "&ta.to_le_bytes()": "&ta.to_be_bytes()",
+        "&crc.to_le_bytes()": "&crc.to_be_bytes()", "&address.to_le_bytes()": "&address.to_be_bytes()",
         "image::word(lent, at, 2) as u16": "(image::word(lent, at + 1, 1) + 256 * image::word(lent, at, 1)) as u16"}),
     Fault("mark 2 and overdrive 1, in packing and unpacking", PACKING, {
         "Mode::Marked => 1": "Mode::Marked => 2", "Mode::Overdrive => 2": "Mode::Overdrive => 1",

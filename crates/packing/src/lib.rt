@@ -2,10 +2,10 @@
 // offsets stands in include/bagtag.h, the definition in specs/Packing.antt. Every function answers a slice of any length.
 #![tactic(auto)]
 
-ghost use Rattle.std.specs.Prelude.{◌≡◌, map, ◌^◌, ◌<◌, length};
+ghost use Rattle.std.specs.Prelude.{◌≡◌, length};
 ghost use Rattle.std.proofs.lemmas.List.Edits.{sets};
 ghost use Rattle.bits.specs.Bytes.{Bytes};
-ghost use Rattle.packing.specs.Packing.{pair, low_first, bytes_of, singles, pairs, words_of, packed, AllFit, Fits, is_packed, unpacked};
+ghost use Rattle.packing.specs.Packing.{bytes_of, singles, words_of, packed, AllFit, Fits, is_packed, unpacked};
 
 use bus::Stage;
 use codes::Numbered;
@@ -72,45 +72,34 @@ fn single_bytes(tag: Tag) -> [u8; 16]
     ]
 }
 
-// Those of two bytes and of eight.
+// Those of two bytes and of eight. Each is named first: of a number that has a name it is known how large its type lets it be.
 #[tactic(auto, unfolding(crate::specs::Packing::AllFit, crate::specs::Packing::words_of, crate::specs::Packing::pairs, crate::specs::Packing::eights))]
 fn put_words(lent: &mut [u8], tag: Tag)
     ensures lent_after { lent.new ≡ sets lent.old 16 (bytes_of (words_of tag)) }
     ensures all_fit { AllFit (words_of tag) }
 {
-    let exchange = tag.exchange;
-    put(lent, 16, &two(tag.counters.reading));
-    put(lent, 18, &two(exchange.held.ta));
-    put(lent, 20, &two(exchange.bus.crc));
-    put(lent, 22, &two(exchange.bus.address));
-    put(lent, 24, &eight(exchange.number));
-    put(lent, 32, &eight(tag.counters.wait));
-    put(lent, 40, &eight(exchange.bus.field));
+    let reading = tag.counters.reading;
+    let ta = tag.exchange.held.ta;
+    let crc = tag.exchange.bus.crc;
+    let address = tag.exchange.bus.address;
+    let number = tag.exchange.number;
+    let wait = tag.counters.wait;
+    let field = tag.exchange.bus.field;
+    put(lent, 16, &reading.to_le_bytes());
+    put(lent, 18, &ta.to_le_bytes());
+    put(lent, 20, &crc.to_le_bytes());
+    put(lent, 22, &address.to_le_bytes());
+    put(lent, 24, &number.to_le_bytes());
+    put(lent, 32, &wait.to_le_bytes());
+    put(lent, 40, &field.to_le_bytes());
 }
 
-// The scratchpad. It, `two` and `eight` are functions of their own, as tried without them `Fits` isn't proved: what a type says of its
-// values (32 bytes, a number below 256 ^ 2) is known of a parameter.
+// The scratchpad. A function of its own, since what its type says, 32 bytes, is known of a parameter.
 fn put_pad(lent: &mut [u8], pad: [u8; 32])
     ensures lent_after { lent.new ≡ sets lent.old 48 pad }
     ensures pad_len { (length pad ≡ 32) × Bytes pad }
 {
     put(lent, 48, &pad);
-}
-
-#[tactic(auto, using(crate::specs::Packing::Fields::low_le))]
-fn two(n: u16) -> [u8; 2]
-    ensures value { result ≡ low_first 2 n }
-    ensures n_bound { n < 256 ^ 2 }
-{
-    n.to_le_bytes()
-}
-
-#[tactic(auto, using(crate::specs::Packing::Fields::low_le))]
-fn eight(n: u64) -> [u8; 8]
-    ensures value { result ≡ low_first 8 n }
-    ensures n_bound { n < 256 ^ 8 }
-{
-    n.to_le_bytes()
 }
 
 // Stores bytes from a place on; past the end, nothing. No `copy_from_slice`: the library's takes addresses for numbers, which the build
