@@ -2,7 +2,7 @@
 // offsets stands in include/bagtag.h, the definition in specs/Packing.antt. Every function answers a slice of any length.
 #![tactic(auto)]
 
-ghost use Rattle.std.specs.Prelude.{◌≡◌, length};
+ghost use Rattle.std.specs.Prelude.{◌≡◌};
 ghost use Rattle.std.proofs.lemmas.List.Edits.{sets};
 ghost use Rattle.bits.specs.Bytes.{Bytes};
 ghost use Rattle.packing.specs.Packing.{bytes_of, singles, words_of, packed, AllFit, Fits, is_packed, unpacked};
@@ -37,9 +37,10 @@ pub fn pack(lent: &mut [u8], tag: Tag)
     ensures lent_after { lent.new ≡ sets lent.old 0 (packed tag) }
     ensures fits { Fits tag }
 {
+    let pad = tag.exchange.held.pad;
     put(lent, 0, &single_bytes(tag));
     put_words(lent, tag);
-    put_pad(lent, tag.exchange.held.pad);
+    put(lent, 48, &pad);
 }
 
 // The fields of one byte.
@@ -72,7 +73,7 @@ fn single_bytes(tag: Tag) -> [u8; 16]
     ]
 }
 
-// Those of two bytes and of eight. Each is named first: of a number that has a name it is known how large its type lets it be.
+// Those of two bytes and of eight. Each has a name first, as the scratchpad has: what its type says of it is known by that.
 #[tactic(auto, unfolding(crate::specs::Packing::AllFit, crate::specs::Packing::words_of, crate::specs::Packing::pairs, crate::specs::Packing::eights))]
 fn put_words(lent: &mut [u8], tag: Tag)
     ensures lent_after { lent.new ≡ sets lent.old 16 (bytes_of (words_of tag)) }
@@ -92,14 +93,6 @@ fn put_words(lent: &mut [u8], tag: Tag)
     put(lent, 24, &number.to_le_bytes());
     put(lent, 32, &wait.to_le_bytes());
     put(lent, 40, &field.to_le_bytes());
-}
-
-// The scratchpad. A function of its own, since what its type says, 32 bytes, is known of a parameter.
-fn put_pad(lent: &mut [u8], pad: [u8; 32])
-    ensures lent_after { lent.new ≡ sets lent.old 48 pad }
-    ensures pad_len { (length pad ≡ 32) × Bytes pad }
-{
-    put(lent, 48, &pad);
 }
 
 // Stores bytes from a place on; past the end, nothing. No `copy_from_slice`: the library's takes addresses for numbers, which the build
