@@ -5,8 +5,7 @@
 -- Assumes nothing.
 use Rattle.std.specs.Prelude.{◌≡◌, refl, List, [], ◌∷◌, ◌≢◌, ℕ, ◌+◌, ◌/◌, ◌%◌, ℤ, length}
 use Rattle.std.proofs.Common.{sym, subst, ◌∙◌, eq-eqb}
-use Rattle.answer.specs.Answer.{refusal_text}
-use Rattle.answer.specs.declared.Answer.{Answer}
+use Rattle.answer.specs.Answer.{Answer, refusal_text}
 use Rattle.answer.proofs.number.Reads as number
 use Rattle.answer.proofs.refusal_text.Reads as refusal-text
 use Rattle.dock.specs.declared.Listing.{Listing}

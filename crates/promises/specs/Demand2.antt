@@ -3,9 +3,9 @@
 -- entry 0 of an alarm start is 8 bits (request #102). What a mission's readings are, and what is kept of them, is said in `History`, from
 -- the settings at Start and the ticks' readings alone; what a Start, its settings and the mission's ticks are in `Sentences.Mission`, by the image; that there are such, with one
 -- mission's listing in numbers, in `Demand2.Met`. Assumes nothing.
-use Rattle.std.specs.Prelude.{◌≡◌, true, List, [], ℕ, ◌+◌, ◌-◌, ◌≤◌, ◌<◌, min, ℤ, pos, length, get_or}
+use Rattle.answer.specs.declared.Refusal.{Refusal}
+use Rattle.std.specs.Prelude.{◌≡◌, true, List, [], ℕ, ◌+◌, ◌-◌, ◌≤◌, ◌<◌, min, ℤ, pos, length, get_or, Ok, Err}
 use Rattle.std.proofs.Common.{ap}
-use Rattle.answer.specs.declared.Answer.TheVariants.{Accepted, Places}
 use Rattle.bits.specs.Bits.{bit_of}
 use Rattle.dock.specs.Entries.{temperature_of, seconds_of, period_of}
 use Rattle.dock.specs.Listing.{refused, listing_of, temperatures_of, seconds_at}
@@ -58,7 +58,7 @@ pub record Lists (s : Settings) (entries : List Conversion) (code : ℕ) (dump :
   pub listing : held_of s entries ≤ length lent
       → listing_of dump (length lent)
       ≡ record {
-        answer = Accepted;
+        answer = Ok tt;
         code = code;
         held = held_of s entries;
         first = length entries - held_of s entries;
@@ -79,7 +79,7 @@ pub record Lists (s : Settings) (entries : List Conversion) (code : ℕ) (dump :
   pub past : held_of s entries ≤ length lent → (i : ℕ) → held_of s entries ≤ i
       → get_or (temperatures_of dump lent) i (pos 0) ≡ get_or lent i (pos 0)
   -- 12: "fewer places lent for temperatures than entries held"
-  pub few : length lent < held_of s entries → (listing_of dump (length lent) ≡ zero_counts Places) × (temperatures_of dump lent ≡ lent)
+  pub few : length lent < held_of s entries → (listing_of dump (length lent) ≡ zero_counts (Err Refusal.Places)) × (temperatures_of dump lent ≡ lent)
 
 -- an image that holds a mission's entries is listed so
 lists : {start image : List ℕ} {es : List Conversion} → Listed start es image → (code : ℕ) → length es ≤ History.most (settings_of start)

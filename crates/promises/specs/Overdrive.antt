@@ -1,8 +1,7 @@
 -- Request #103, "Overdrive": what a short reset does at either speed, when the speed is 1, and that it changes nothing else. `overdrive` in
 -- Overdrive/Proof.antt proves it. What 3Ch and 69h choose is in `Sentences.Choosing`, beside Skip and Match; short resets are among the
 -- events of every run, in demands 1 to 3 too. Assumes nothing.
-use Rattle.std.specs.Prelude.{◌≡◌, Bool, true, false, List, [], ◌∷◌, ◌++◌, ◌⊎◌, ◌≢◌, ℕ}
-use Rattle.answer.specs.declared.Answer.{Answer}
+use Rattle.std.specs.Prelude.{◌≡◌, Bool, true, false, List, [], ◌∷◌, ◌++◌, ◌⊎◌, ◌≢◌, ℕ, Ok}
 use Rattle.record.specs.declared.Tag.{Tag}
 use Rattle.select.specs.declared.Mode.{Mode}
 use Rattle.select.specs.Select.{mode_of}
@@ -81,7 +80,7 @@ pub record Overdrive : Type 0 where
   -- the reading of code 4 is not looked at, whatever the image and the record are
   pub unread : (image : List ℕ) (tag : Tag) (reading : ℕ) → step image tag 4 reading ≡ step image tag 4 0
   -- a new tag is at standard speed, and stays there until its first long reset
-  pub new : (image : List ℕ) (number code : ℕ) → (new_tag image number code).answered.answer ≡ Answer.Accepted →
+  pub new : (image : List ℕ) (number code : ℕ) → (new_tag image number code).answered.answer ≡ Ok tt →
       (events : List Event) → NoLong events → speed_of (run (leaves (new_tag image number code)) events).state ≡ false
   -- since the last long reset: the speed is 1 exactly if the slots since then set it
   pub only_if : {s : State} → Fit s → (events : List Event) → NoLong events →

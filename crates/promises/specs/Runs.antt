@@ -1,7 +1,6 @@
 -- Runs: events one after the other, and the states that they reach from a new tag (document 01, "Events and what they return"; request
 -- #103). Assumes nothing.
-use Rattle.std.specs.Prelude.{Bool, cond, List, [], ◌∷◌, ◌≡◌, ℕ}
-use Rattle.answer.specs.declared.Answer.{Answer}
+use Rattle.std.specs.Prelude.{Bool, cond, List, [], ◌∷◌, ◌≡◌, ℕ, Ok}
 use Rattle.record.specs.declared.Tag.{Tag}
 use Rattle.record.specs.Record.{Outcome}
 use Rattle.tag.specs.Tag.{new_tag, step}
@@ -49,7 +48,7 @@ abbrev pub line_bit : State → Event → Bool
 line_bit s e = (happens s e).answered.line
 
 abbrev pub Accepts : State → Event → Type 0
-Accepts s e = (happens s e).answered.answer ≡ Answer.Accepted
+Accepts s e = (happens s e).answered.answer ≡ Ok tt
 
 -- ---- events one after the other
 
@@ -84,7 +83,7 @@ pub record Kept (before after : State) : Type 0 where
 -- ---- "tags reached from a new one by events"
 
 pub data Reached : State → Type 0 where
-  new : (image : List ℕ) (number code : ℕ) → (new_tag image number code).answered.answer ≡ Answer.Accepted →
+  new : (image : List ℕ) (number code : ℕ) → (new_tag image number code).answered.answer ≡ Ok tt →
       Reached (leaves (new_tag image number code))
   event : {s : State} (e : Event) → Reached s → Accepts s e → Reached (after s e)
 

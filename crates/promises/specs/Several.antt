@@ -2,9 +2,8 @@
 -- them. First the words, then the statements: a tag on the line is a tag alone, which carries all others; demand 1 of the line; its bits; that
 -- a Match touches no other tag; and, in Several/Demand3.antt, demand 3, whose premises Several/Met.antt meets. `one_tag` and `line_demand1` in
 -- Several/Proof.antt, `line_bits` in Several/Bits.antt and `touches_no_other` in Several/Others.antt prove them. Assumes nothing.
-use Rattle.std.specs.Prelude.{Bool, true, false, not, ◌&&◌, ◌||◌, ◌≡◌, ◌≢◌, ◌⊎◌, ℕ, zero, suc, ◌*◌, ◌^◌, ◌≤◌, ◌<◌, eqb, leb, length, get_or, take, drop, replicate, if◌then◌else◌}
+use Rattle.std.specs.Prelude.{Bool, true, false, not, ◌&&◌, ◌||◌, ◌≡◌, ◌≢◌, ◌⊎◌, ℕ, zero, suc, ◌*◌, ◌^◌, ◌≤◌, ◌<◌, eqb, leb, length, get_or, take, drop, replicate, if◌then◌else◌, Ok}
 use mathlib.Core.List.{List, [], ◌∷◌, ◌++◌, map, flat_map}
-use Rattle.answer.specs.declared.Answer.{Answer}
 use Rattle.bits.specs.Each.{each}
 use Rattle.board.specs.Board.{Left, line_step, new_line}
 use Rattle.board.specs.declared.Board.{Board}
@@ -93,7 +92,7 @@ abbrev pub line_bit : Line → LineEvent → Bool
 line_bit l e = (happens l e).shown.line
 
 abbrev pub Accepts : Line → LineEvent → Type 0
-Accepts l e = (happens l e).shown.answer ≡ Answer.Accepted
+Accepts l e = (happens l e).shown.answer ≡ Ok tt
 
 -- one after the other
 pub record Ran : Type 0 where
@@ -200,7 +199,7 @@ no_board = record { tags = replicate 7 (clear_tag 0 0); count = 0 }
 
 -- reached from a new line by events that were accepted
 pub data Reached : Line → Type 0 where
-  new : (block numbers codes : List ℕ) → (new_line block numbers codes).shown.answer ≡ Answer.Accepted →
+  new : (block numbers codes : List ℕ) → (new_line block numbers codes).shown.answer ≡ Ok tt →
       Reached (leaves (new_line block numbers codes))
   event : {l : Line} (e : LineEvent) → Reached l → Accepts l e → Reached (after l e)
 

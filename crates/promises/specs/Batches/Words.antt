@@ -1,5 +1,5 @@
 -- A list's words are events: what a list leaves is what their run leaves. Assumes nothing.
-use Rattle.std.specs.Prelude.{◌≡◌, true, false, not, ◌≢◌, ℕ, zero, suc, ◌-◌, ◌≤◌, ◌<◌, eqb, if◌then◌else◌}
+use Rattle.std.specs.Prelude.{◌≡◌, true, false, not, ◌≢◌, ℕ, zero, suc, ◌-◌, ◌≤◌, ◌<◌, eqb, if◌then◌else◌, Ok, Err}
 use Rattle.std.proofs.Math.Path.{refl}
 use Rattle.std.proofs.Common.{sym, ap, ◌∙◌, true≢false, arith}
 use mathlib.Core.List.{List, [], ◌∷◌, map}
@@ -11,7 +11,8 @@ use Rattle.std.proofs.Math.Dec.{eqb-zero-suc, eqb-suc-suc}
 use Rattle.std.proofs.Math.ListN.{length, length-map}
 use Rattle.std.proofs.lemmas.List.Edits.{sets-eq}
 use Rattle.std.proofs.Math.Seq.{length-sets}
-use Rattle.answer.specs.declared.Answer.{Answer}
+use Rattle.answer.specs.Answer.{Answer}
+use Rattle.answer.specs.declared.Refusal.{Refusal}
 use Rattle.batch.specs.Batch.{is_event, Course, course_of, undone, replied, listed}
 use Rattle.batch.specs.Batch as batch
 use Rattle.batch.specs.Batch.Laws.{list_cases}
@@ -108,7 +109,7 @@ ran_course s words =
       line = map digit ran.line;
       tag = ran.state.tag;
       image = ran.state.image;
-      answer = if eqb (length (events_of words)) (length words) then Answer.Accepted else Answer.EventCode;
+      answer = if eqb (length (events_of words)) (length words) then Ok tt else Err Refusal.EventCode;
     }
 
 pub course_run : (image : List ℕ) (tag : Tag) (words : List ℕ) → course_of image tag words ≡ ran_course (record { image = image; tag = tag }) words
@@ -169,7 +170,7 @@ module _ (image : List ℕ) (tag : Tag) (words replies : List ℕ) where
       length-map (run s (events_of words)).line digit ∙ line_length s (events_of words) in
       let line = map digit (run s (events_of words)).line in
       record {
-        answer = rw asked (numbered (eqb (length (events_of words)) (length words)) Answer.Accepted Answer.EventCode refl refl);
+        answer = rw asked (numbered (eqb (length (events_of words)) (length words)) (Ok tt) (Err Refusal.EventCode) refl refl);
         refused = λ bad. absurd (bad asked);
         same = λ _. (refl, refl, done);
         bits = λ _. rw (sets-eq line replies 0 (omega (arith, done, room, events_short words)), zero-add, done);
@@ -181,11 +182,11 @@ module _ (image : List ℕ) (tag : Tag) (words replies : List ℕ) where
   unfolding asked_number
   list_leaves =
       list_cases image tag words replies (Leaves image tag words replies)
-      (λ few. refusing Answer.Replies (rw (lt-ltb (length replies) (length words) few)) (λ e. absurd (omega (arith, e))))
+      (λ few. refusing (Err Refusal.Replies) (rw (lt-ltb (length replies) (length words) few)) (λ e. absurd (omega (arith, e))))
       (λ room size.
-      refusing Answer.ImageLength (rw (le-ltb (length replies) (length words) room, ne_eqb (length image) 8832 size)) (λ e. absurd (omega (arith, e))))
+      refusing (Err Refusal.ImageLength) (rw (le-ltb (length replies) (length words) room, ne_eqb (length image) 8832 size)) (λ e. absurd (omega (arith, e))))
       (λ room whole broken.
-      refusing Answer.RecordRange
+      refusing (Err Refusal.RecordRange)
       (rw (le-ltb (length replies) (length words) room, eq-eqb (length image) 8832 whole, range_is tag, broken))
       (λ e. absurd (omega (arith, e))))
       (λ room whole in_range.

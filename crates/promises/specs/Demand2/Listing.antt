@@ -1,9 +1,9 @@
 -- What the dock lists of an image that holds a mission's entries. Assumes nothing.
-use Rattle.std.specs.Prelude.{◌≡◌, refl, Bool, true, false, not, ◌&&◌, ◌||◌, List, ℕ, ◌+◌, ◌-◌, ◌≤◌, ◌<◌, min, eqb, ltb, ℤ, pos, length, get_or, if◌then◌else◌}
+use Rattle.answer.specs.declared.Refusal.{Refusal}
+use Rattle.std.specs.Prelude.{◌≡◌, refl, Bool, true, false, not, ◌&&◌, ◌||◌, List, ℕ, ◌+◌, ◌-◌, ◌≤◌, ◌<◌, min, eqb, ltb, ℤ, pos, length, get_or, if◌then◌else◌, Ok}
 use Rattle.std.proofs.Math.Path.{sym}
 use Rattle.std.proofs.Common.{ap, ◌∙◌, arith, eqb-true, le-ltb}
 use Rattle.std.proofs.lemmas.Bool.{false≢true, eqb-false}
-use Rattle.answer.specs.declared.Answer.TheVariants.{Accepted, Places}
 use Rattle.bits.specs.Bits.{digit, bit_of}
 use Rattle.dock.specs.Dumped.{Agree}
 use Rattle.dock.specs.Entries
@@ -111,7 +111,7 @@ module _ {start : List ℕ} {es : List Conversion} {image : List ℕ} (p : Liste
 
     -- ---- the listing
 
-    lines : check_of (dump_of image code) ≡ Accepted
+    lines : check_of (dump_of image code) ≡ Ok tt
     lines = dump_accepted image code p.whole.bytes (code_small code good)
 
     same : Agree (dumped_at (dump_of image code)) (sent_at image code)
@@ -127,7 +127,7 @@ module _ {start : List ℕ} {es : List Conversion} {image : List ℕ} (p : Liste
 
       pub listing_read : listing_of (dump_of image code) (length lent)
           ≡ record {
-            answer = Accepted;
+            answer = Ok tt;
             code = code;
             held = min (length es) (conversion.places start);
             first = length es - min (length es) (conversion.places start);
@@ -166,7 +166,7 @@ module _ {start : List ℕ} {es : List Conversion} {image : List ℕ} (p : Liste
 
     -- too few places
     module _ (lent : List ℤ) (few : length lent < min (length es) (conversion.places start)) where
-      pub few_read : (listing_of (dump_of image code) (length lent) ≡ refused Places) × (temperatures_of (dump_of image code) lent ≡ lent)
+      pub few_read : (listing_of (dump_of image code) (length lent) ≡ refused Refusal.Places) × (temperatures_of (dump_of image code) lent ≡ lent)
       few_read =
           let less : length lent < Entries.held (sent_at image code) = rw held_read few in (
             memory_few (dump_of image code) (sent_at image code) lines same kept can (length lent) less,

@@ -1,8 +1,7 @@
 -- Demand 2 says something: its premises can be met. Three statements: a Start whose slots come over the line is one as `Starts` says it
 -- (`start_met` in Met/Start.antt proves it), and of one mission, from a new tag on, what the image holds and what is listed, in numbers
 -- (`mission_held` and `mission_listed` in Met/Mission.antt). Assumes nothing.
-use Rattle.std.specs.Prelude.{◌≡◌, Bool, true, false, List, [], ◌∷◌, ◌++◌, map, ℕ, ◌^◌, ◌<◌, ℤ, pos, negsuc, length, replicate}
-use Rattle.answer.specs.declared.Answer.TheVariants.{Accepted}
+use Rattle.std.specs.Prelude.{◌≡◌, Bool, true, false, List, [], ◌∷◌, ◌++◌, map, ℕ, ◌^◌, ◌<◌, ℤ, pos, negsuc, length, replicate, Ok}
 use Rattle.bits.specs.Bits.{bits_of, released}
 use Rattle.dock.specs.Listing.{listing_of, temperatures_of, seconds_at}
 use Rattle.exchange.specs.Runs.{Way}
@@ -99,7 +98,7 @@ pub record ListedSo (dump : List ℕ) : Type 0 where
   -- three entries, and the stamp of entry 1: 12:00:00 AM, 1 January 00, with CENT flipped, and the form as it was set
   pub listing : listing_of dump 4
       ≡ record {
-        answer = Accepted;
+        answer = Ok tt;
         code = 0x40;
         held = 3;
         first = 0;

@@ -1,5 +1,5 @@
 -- The library's calls to a line are the board's, through the bytes of its records. Assumes nothing.
-use Rattle.std.specs.Prelude.{Bool, ◌&&◌, ◌||◌, List, [], ◌∷◌, ◌++◌, ◌≢◌, ◌≡◌, eqb, leb, ltb, replicate, if◌then◌else◌}
+use Rattle.std.specs.Prelude.{Bool, ◌&&◌, ◌||◌, List, [], ◌∷◌, ◌++◌, ◌≢◌, ◌≡◌, eqb, leb, ltb, replicate, if◌then◌else◌, Ok, Err}
 use Rattle.std.specs.Borrow.{MutBor}
 use Rattle.std.proofs.Math.Bool.{true, false, not}
 use Rattle.std.proofs.Math.Logic.{dite}
@@ -10,7 +10,7 @@ use Rattle.std.proofs.Math.Decide.{dec_lt, ℕ_discrete}
 use Rattle.std.proofs.Math.ListN.{length, get_or, get_or-eq_default}
 use Rattle.std.proofs.lemmas.List.{get_or-replicate}
 use Rattle.answer.specs.Answer.{answer_number}
-use Rattle.answer.specs.declared.Answer.{Answer}
+use Rattle.answer.specs.declared.Refusal.{Refusal}
 use Rattle.bagtag.proofs.line.bagtag_line_event.Reads as bagtag_line_event
 use Rattle.bagtag.proofs.line.bagtag_line_new.Reads as bagtag_line_new
 use Rattle.bagtag.specs.Line.{NewLine, asked, short_number, new_line_call, LineEvent, line_call}
@@ -100,12 +100,12 @@ judged_number count size same held good fine code place reading known = by (is_c
         ≡ number_by count size held fine code place reading
     by true few =
         (λ i. number_in (judged_by count size ((known few).0 i) ((known few).1 i) code place reading))
-        ∙ numbered (not (is_line count) || (eqb code 3 && leb count place)) Answer.TagPlace _ refl
-        (numbered (not (eqb size (count * 8832))) Answer.ImageLength _ refl
-        (numbered held Answer.SameNumber _ refl
-        (numbered (not fine) Answer.RecordRange _ refl
-        (numbered (ltb 4 code) Answer.EventCode _ refl
-        (numbered (eqb code 3 && ltb 2047 reading) Answer.Reading Answer.Accepted refl refl)))))
+        ∙ numbered (not (is_line count) || (eqb code 3 && leb count place)) (Err Refusal.TagPlace) _ refl
+        (numbered (not (eqb size (count * 8832))) (Err Refusal.ImageLength) _ refl
+        (numbered held (Err Refusal.SameNumber) _ refl
+        (numbered (not fine) (Err Refusal.RecordRange) _ refl
+        (numbered (ltb 4 code) (Err Refusal.EventCode) _ refl
+        (numbered (eqb code 3 && ltb 2047 reading) (Err Refusal.Reading) (Ok tt) refl refl)))))
     by false few = rw few
 
 event_number_lem : (block records : List ℕ) (count code place reading : ℕ) →

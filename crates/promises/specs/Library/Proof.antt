@@ -12,7 +12,7 @@ use Rattle.std.proofs.Math.ListN.{length, drop, length-append}
 use Rattle.std.proofs.Math.Seq.{sets, take-append_seam, drop-append_seam}
 use Rattle.std.proofs.lemmas.List.Edits.{sets-eq}
 use Rattle.answer.specs.Answer.{answer_number}
-use Rattle.answer.specs.declared.Answer.{Answer}
+use Rattle.answer.specs.declared.Refusal.{Refusal}
 use Rattle.bagtag.proofs.bagtag_event.Reads as bagtag_event
 use Rattle.bagtag.proofs.bagtag_events.Reads as bagtag_events
 use Rattle.bagtag.proofs.bagtag_new.Reads as bagtag_new
@@ -250,8 +250,8 @@ unfolding event_call
 line_bit_lem image lent code reading = by (eqb (length image) 8832) (is_packed lent)
   where
     by : (whole good : Bool) →
-        (if not whole then no_event Answer.ImageLength image lent
-        else if not good then no_event Answer.RecordRange image lent
+        (if not whole then no_event Refusal.ImageLength image lent
+        else if not good then no_event Refusal.RecordRange image lent
         else stepped (step image (unpacked lent) code reading)).line < 2
     by false good = omega arith
     by true false = omega arith

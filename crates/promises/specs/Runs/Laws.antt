@@ -1,12 +1,12 @@
 -- What lifts from one event to a run: an invariant, and a relation between two runs side by side; and the two that every reached
 -- state has. Assumes nothing.
-use Rattle.std.specs.Prelude.{◌≡◌, Bool, List, [], ◌∷◌, ◌++◌, ℕ, suc, ◌≤◌, ◌<◌, length}
+use Rattle.std.specs.Prelude.{◌≡◌, Bool, List, [], ◌∷◌, ◌++◌, ℕ, suc, ◌≤◌, ◌<◌, length, Ok}
 use Rattle.std.proofs.Math.Path.{refl}
 use Rattle.std.proofs.Common.{ap, ◌∙◌, arith, lt-ltb, le-ltb}
 use Rattle.std.proofs.Math.Bool.{true, false}
 use Rattle.std.proofs.Math.Logic.{dite}
 use Rattle.std.proofs.Math.Decide.{dec_le}
-use Rattle.answer.specs.declared.Answer.{Answer}
+use Rattle.answer.specs.declared.Refusal.{Refusal}
 use Rattle.bits.specs.Bits.{digit}
 use Rattle.exchange.specs.Exchange.Laws.{number_kept, short_number_lem, short_held}
 use Rattle.record.specs.Record.{tag_in_range, refusal}
@@ -131,7 +131,7 @@ unfolding run
 sound_run [] sound = sound
 sound_run {s} (e ∷ es) sound = sound_run {s = after s e} es (sound_after e sound)
 
-sound_new : (image : List ℕ) (number code : ℕ) → (new_tag image number code).answered.answer ≡ Answer.Accepted →
+sound_new : (image : List ℕ) (number code : ℕ) → (new_tag image number code).answered.answer ≡ Ok tt →
     Sound (leaves (new_tag image number code))
 sound_new image number code e =
     let good = new_good image number code e in
@@ -167,7 +167,7 @@ module _ {s : State} (sound : Sound s) where
       step_taken s.image s.tag 3 reading sound.size sound.ranges ∙ rw (le-ltb 2047 reading small)
 
   -- a tick with a reading above 2047 is refused
-  pub tick_refused : (reading : ℕ) → 2047 < reading → happens s (Event.tick reading) ≡ refusal Answer.Reading s.tag s.image
+  pub tick_refused : (reading : ℕ) → 2047 < reading → happens s (Event.tick reading) ≡ refusal Refusal.Reading s.tag s.image
   unfolding event_of
   tick_refused reading high =
       step_taken s.image s.tag 3 reading sound.size sound.ranges ∙ rw (lt-ltb 2047 reading high)

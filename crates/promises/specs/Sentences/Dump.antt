@@ -1,8 +1,8 @@
 -- Document 01, "The dump and its listing", and its numbers 7 to 12: which dumps are refused and by which number, what the dock lists of one
 -- that is accepted, from the dump's own characters, and that a tag's dump is what Read Memory sends. `dump` in Dump/Proof.antt proves it.
 -- What a listing says of a mission is demand 2. Assumes nothing.
-use Rattle.std.specs.Prelude.{Bool, true, false, not, ◌&&◌, ◌||◌, List, [], ◌∷◌, ◌++◌, ◌≢◌, ◌≡◌, ℕ, zero, suc, ◌+◌, ◌-◌, ◌*◌, ◌/◌, ◌%◌, ◌^◌, ◌<◌, eqb, leb, ltb, ℤ, pos, length, get_or, replicate, if◌then◌else◌}
-use Rattle.answer.specs.declared.Answer.{Answer}
+use Rattle.std.specs.Prelude.{Bool, true, false, not, ◌&&◌, ◌||◌, List, [], ◌∷◌, ◌++◌, ◌≢◌, ◌≡◌, ℕ, zero, suc, ◌+◌, ◌-◌, ◌*◌, ◌/◌, ◌%◌, ◌^◌, ◌<◌, eqb, leb, ltb, ℤ, pos, length, get_or, replicate, if◌then◌else◌, Ok}
+use Rattle.answer.specs.Answer.{Answer}
 use Rattle.dock.specs.Listing.{listing_of, temperatures_of, seconds_at}
 use Rattle.dock.specs.declared.Listing.{Listing}
 use Rattle.text.specs.Text.{listing_text}
@@ -88,7 +88,7 @@ zero_counts answer =
 abbrev pub listed_by : (ℕ → ℕ) → Listing
 listed_by byte =
     record {
-      answer = Answer.Accepted;
+      answer = Ok tt;
       code = byte 0x0226;
       held = held byte;
       first = entries byte - held byte;

@@ -1,7 +1,8 @@
 -- Document 01, "Events and what they return", as changed by request #103: the numbers and exactly when each is given, what a refusal leaves,
 -- what a new tag is, and the bits of resets, ticks and slots held low. `events` in Events/Proof.antt proves it. Assumes nothing.
-use Rattle.std.specs.Prelude.{Bool, true, false, not, ◌&&◌, List, ◌≡◌, ◌≢◌, ℕ, ◌≤◌, eqb, ltb, length, replicate, if◌then◌else◌}
-use Rattle.answer.specs.declared.Answer.{Answer}
+use Rattle.std.specs.Prelude.{Bool, true, false, not, ◌&&◌, List, ◌≡◌, ◌≢◌, ℕ, ◌≤◌, eqb, ltb, length, replicate, if◌then◌else◌, Ok, Err}
+use Rattle.answer.specs.Answer.{Answer}
+use Rattle.answer.specs.declared.Refusal.{Refusal}
 use Rattle.bus.specs.declared.Stage.{Stage}
 use Rattle.select.specs.declared.Choosing.{Choosing}
 use Rattle.select.specs.declared.Mode.{Mode}
@@ -18,22 +19,22 @@ pub mod Proof
 
 -- the table's, 13 and 14 of request #106, and 17 of request #101
 abbrev pub number_in : Answer → ℕ
-number_in Answer.Accepted = 0
-number_in Answer.EventCode = 1
-number_in Answer.Reading = 2
-number_in Answer.ImageLength = 3
-number_in Answer.RomNumber = 4
-number_in Answer.Configuration = 5
-number_in Answer.RecordRange = 6
-number_in Answer.DumpForm = 7
-number_in Answer.LineCrc = 8
-number_in Answer.LinePage = 9
-number_in Answer.Cleared = 10
-number_in Answer.Counts = 11
-number_in Answer.Places = 12
-number_in Answer.SameNumber = 13
-number_in Answer.TagPlace = 14
-number_in Answer.Replies = 17
+number_in (Ok tt) = 0
+number_in (Err Refusal.EventCode) = 1
+number_in (Err Refusal.Reading) = 2
+number_in (Err Refusal.ImageLength) = 3
+number_in (Err Refusal.RomNumber) = 4
+number_in (Err Refusal.Configuration) = 5
+number_in (Err Refusal.RecordRange) = 6
+number_in (Err Refusal.DumpForm) = 7
+number_in (Err Refusal.LineCrc) = 8
+number_in (Err Refusal.LinePage) = 9
+number_in (Err Refusal.Cleared) = 10
+number_in (Err Refusal.Counts) = 11
+number_in (Err Refusal.Places) = 12
+number_in (Err Refusal.SameNumber) = 13
+number_in (Err Refusal.TagPlace) = 14
+number_in (Err Refusal.Replies) = 17
 
 -- 1: "Answer 1 now begins above 4"; 2: "tick with a reading above 2047"
 unfoldable pub own_number : ℕ → ℕ → ℕ

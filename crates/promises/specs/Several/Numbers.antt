@@ -1,10 +1,10 @@
 -- The numbers of a line's answers, by what stands in the line. Assumes nothing.
-use Rattle.std.specs.Prelude.{◌≡◌, refl, Bool, true, false, not, ◌&&◌, ◌||◌, List, ℕ, zero, suc, ◌+◌, ◌*◌, ◌<◌, eqb, leb, ltb, length, get_or, drop, if◌then◌else◌}
+use Rattle.std.specs.Prelude.{◌≡◌, refl, Bool, true, false, not, ◌&&◌, ◌||◌, List, ℕ, zero, suc, ◌+◌, ◌*◌, ◌<◌, eqb, leb, ltb, length, get_or, drop, if◌then◌else◌, Ok, Err}
 use Rattle.std.proofs.Common.{sym, ap, ◌∙◌, add-one, arith, eqb-true, eq-eqb, drop_of_length-le, drop-cons}
 use Rattle.std.proofs.lemmas.Bool.{false≢true, not-true, not-false}
 use Rattle.std.proofs.Math.Logic.{dite}
 use Rattle.std.proofs.Math.Decide.{dec_lt}
-use Rattle.answer.specs.declared.Answer.{Answer}
+use Rattle.answer.specs.declared.Refusal.{Refusal}
 use Rattle.bits.specs.Each.{each, each_holds, each_fails, each_same}
 use Rattle.board.specs.Board as board
 use Rattle.board.specs.Board.{line_step, new_line, judged, judged_by, new_judged, new_fault, same_number, is_count, names_none, is_high}
@@ -90,11 +90,11 @@ line_number_lem l code place reading =
     let many = is_line (count_of l) in
     ap number_in (board-laws.line_answer l.block l.board code place reading)
     ∙ rw (same_is l (count_of l), ranges_are l (count_of l))
-    (numbered (not many || (eqb code 3 && leb (count_of l) place)) Answer.TagPlace _ refl
-    (numbered (not (eqb (length l.block) (count_of l * 8832))) Answer.ImageLength _ refl
-    (numbered (twice (count_of l) (λ i. number_of (tag_at l i))) Answer.SameNumber _ refl
-    (numbered (not (each (count_of l) (λ i. in_range (tag_at l i).tag))) Answer.RecordRange _ refl
-    (numbered (ltb 4 code) Answer.EventCode _ refl (numbered (eqb code 3 && ltb 2047 reading) Answer.Reading Answer.Accepted refl refl))))))
+    (numbered (not many || (eqb code 3 && leb (count_of l) place)) (Err Refusal.TagPlace) _ refl
+    (numbered (not (eqb (length l.block) (count_of l * 8832))) (Err Refusal.ImageLength) _ refl
+    (numbered (twice (count_of l) (λ i. number_of (tag_at l i))) (Err Refusal.SameNumber) _ refl
+    (numbered (not (each (count_of l) (λ i. in_range (tag_at l i).tag))) (Err Refusal.RecordRange) _ refl
+    (numbered (ltb 4 code) (Err Refusal.EventCode) _ refl (numbered (eqb code 3 && ltb 2047 reading) (Err Refusal.Reading) (Ok tt) refl refl))))))
 
 -- ---- of a new line
 
@@ -110,8 +110,8 @@ fault_is numbers codes place (suc left) same end =
       drop-cons codes place 0 (omega (arith, end, same)),
       ← rom_is number,
     )
-    (numbered (not (is_rom number)) Answer.RomNumber _ refl
-    (numbered (not (is_configuration code)) Answer.Configuration _ refl
+    (numbered (not (is_rom number)) (Err Refusal.RomNumber) _ refl
+    (numbered (not (is_configuration code)) (Err Refusal.Configuration) _ refl
     (rw (add-one place) (fault_is numbers codes (suc place) left same (omega (arith, end))))))
 
 pub new_number_lem : (block numbers codes : List ℕ) → number_in (new_line block numbers codes).shown.answer ≡ new_number block numbers codes
@@ -125,20 +125,20 @@ new_number_lem block numbers codes =
     -- behind 14 there are as many codes as numbers
     rest : length codes ≡ length numbers →
         number_in
-        (if not (eqb (length block) (length numbers * 8832)) then Answer.ImageLength
-        else if same_number (length numbers) (λ i. get_or numbers i 0) then Answer.SameNumber
+        (if not (eqb (length block) (length numbers * 8832)) then Err Refusal.ImageLength
+        else if same_number (length numbers) (λ i. get_or numbers i 0) then Err Refusal.SameNumber
         else new_fault numbers codes 0 (length numbers))
         ≡ (if not (eqb (length block) (length numbers * 8832)) then 3 else if twice (length numbers) (λ i. get_or numbers i 0) then 13 else first_fault numbers codes)
     rest same =
         rw (← twice_is (length numbers) (λ i. get_or numbers i 0))
-        (numbered (not (eqb (length block) (length numbers * 8832))) Answer.ImageLength _ refl
-        (numbered (twice (length numbers) (λ i. get_or numbers i 0)) Answer.SameNumber _ refl (fault_is numbers codes 0 (length numbers) same (omega arith))))
+        (numbered (not (eqb (length block) (length numbers * 8832))) (Err Refusal.ImageLength) _ refl
+        (numbered (twice (length numbers) (λ i. get_or numbers i 0)) (Err Refusal.SameNumber) _ refl (fault_is numbers codes 0 (length numbers) same (omega arith))))
 
     by : (many paired : Bool) → eqb (length codes) (length numbers) ≡ paired →
         number_in
-        (if not (many && paired) then Answer.TagPlace
-        else if not (eqb (length block) (length numbers * 8832)) then Answer.ImageLength
-        else if same_number (length numbers) (λ i. get_or numbers i 0) then Answer.SameNumber
+        (if not (many && paired) then Err Refusal.TagPlace
+        else if not (eqb (length block) (length numbers * 8832)) then Err Refusal.ImageLength
+        else if same_number (length numbers) (λ i. get_or numbers i 0) then Err Refusal.SameNumber
         else new_fault numbers codes 0 (length numbers))
         ≡ (if not many || not paired then 14
         else if not (eqb (length block) (length numbers * 8832)) then 3

@@ -1,6 +1,6 @@
 -- A dump's lines as document 01 reads them, character by character, are those that the dock reads: the number of the first line that is refused,
 -- and the byte of every address. Assumes nothing.
-use Rattle.std.specs.Prelude.{Bool, true, false, not, ◌&&◌, ◌≢◌, ◌≡◌, eqb, leb, ltb, drop, if◌then◌else◌}
+use Rattle.std.specs.Prelude.{Bool, true, false, not, ◌&&◌, ◌≢◌, ◌≡◌, eqb, leb, ltb, drop, if◌then◌else◌, Ok, Err}
 use Rattle.std.proofs.Math.Bool.{and_assoc, and-false, or-true, and-eq-true_iff}
 use mathlib.Core.List.{List, [], ◌∷◌, ◌++◌, flat_map}
 use Rattle.std.proofs.Math.Path.{refl, sym, fun_ext}
@@ -12,7 +12,8 @@ use native.Mathlib.Omega.{arith}
 use borrow.Author.Tests.{eq-eqb, eqb-true, lt-ltb, le-leb, lt-leb, ltb-true, leb-true}
 use Rattle.std.proofs.Math.ListN.{length, get_or, take}
 use Rattle.std.proofs.Math.Seq.{length-take-le, drop-cons, get_or-take, get_or-drop}
-use Rattle.answer.specs.declared.Answer.{Answer}
+use Rattle.answer.specs.Answer.{Answer}
+use Rattle.answer.specs.declared.Refusal.{Refusal}
 use Rattle.bits.specs.Bits.{number_of}
 use Rattle.bits.specs.Bits.Laws.{number_bits}
 use Rattle.crc.specs.Crc.{crc16_run, sent_low, sent_high}
@@ -279,12 +280,12 @@ module _ (dump : List ℕ) (line : ℕ) where
     unfolding check_line check_text line_number
     line_number_lem =
         rw (line_formed dump line size there, page_is line there)
-        (numbered_when (not (form dump line)) Answer.DumpForm _ refl
+        (numbered_when (not (form dump line)) (Err Refusal.DumpForm) _ refl
         (λ is.
         let are = ((and-eq-true_iff (digits dump line) (eqb (get_or dump (73 * line + 72) 0) 0x0A)).0 (not-false (form dump line) is)).0 in
         rw (line_page are, line_crc are)
-        (numbered (not (eqb (256 * shown dump line 0 + shown dump line 1) (page_at line))) Answer.LinePage _ refl
-        (numbered (not crc) Answer.LineCrc Answer.Accepted refl refl))))
+        (numbered (not (eqb (256 * shown dump line 0 + shown dump line 1) (page_at line))) (Err Refusal.LinePage) _ refl
+        (numbered (not crc) (Err Refusal.LineCrc) (Ok tt) refl refl))))
 
 -- ---- line by line
 
@@ -323,7 +324,7 @@ module _ (dump : List ℕ) (size : length dump ≡ 18834) where
         (sym (line_number_lem dump line size h) ∙ rw zero-add at (lines_each dump 0 258 (all_number ∙ none) line h))
 
     -- so the dock accepts them, and reads the same bytes
-    pub lines_check : check_of dump ≡ Answer.Accepted
+    pub lines_check : check_of dump ≡ Ok tt
     lines_check = check_lines_lem dump size ∙ number_accepts (all_number ∙ none)
 
     pub dumped_is : dumped dump ≡ dumped_at dump

@@ -1,12 +1,12 @@
 -- What the dock lists of a dump is what the dump's own characters say: number, counts, stamp, seconds and temperatures. Assumes nothing.
-use Rattle.std.specs.Prelude.{Bool, not, List, ◌≢◌, ◌≡◌, ℕ, suc, ◌+◌, ◌-◌, ◌*◌, ◌/◌, ◌%◌, ◌≤◌, ◌<◌, eqb, ltb, ℤ, pos, length, get_or, if◌then◌else◌}
+use Rattle.std.specs.Prelude.{Bool, not, List, ◌≢◌, ◌≡◌, ℕ, suc, ◌+◌, ◌-◌, ◌*◌, ◌/◌, ◌%◌, ◌≤◌, ◌<◌, eqb, ltb, ℤ, pos, length, get_or, if◌then◌else◌, Ok, Err}
 use Rattle.std.proofs.Math.Bool.{true, false}
 use Rattle.std.proofs.Math.Logic.{dite}
 use Rattle.std.proofs.Math.Path.{refl}
 use Rattle.std.proofs.Common.{sym, ap, ◌∙◌, eqb-true, ne_eqb, lt-ltb, le-ltb}
 use Rattle.std.proofs.Math.Decide.{dec_lt}
 use native.Mathlib.Omega.{arith}
-use Rattle.answer.specs.declared.Answer.{Answer}
+use Rattle.answer.specs.declared.Refusal.{Refusal}
 use Rattle.bits.specs.Bits.{bit_of}
 use Rattle.dock.specs.declared.Listing.{Listing}
 use Rattle.dock.specs.Dumped.{Agree}
@@ -61,8 +61,8 @@ module _ (byte : ℕ → ℕ) where
   unfolding dock.judged content_number bit bit_of
   content_number_lem lent =
       rw (cannot_be_lem, held_are)
-      (numbered (bit (byte 0x0215) 3) Answer.Cleared _ refl
-      (numbered (cannot_be byte) Answer.Counts _ refl (numbered (ltb lent (held byte)) Answer.Places Answer.Accepted refl refl)))
+      (numbered (bit (byte 0x0215) 3) (Err Refusal.Cleared) _ refl
+      (numbered (cannot_be byte) (Err Refusal.Counts) _ refl (numbered (ltb lent (held byte)) (Err Refusal.Places) (Ok tt) refl refl)))
 
   -- the listing
   listed_is : dock.listed byte ≡ listed_by byte
@@ -102,10 +102,10 @@ dump_number_lem dump lent = by (eqb (length dump) 18834) refl
     turned false lines e = refl
 
     by : (whole : Bool) → eqb (length dump) 18834 ≡ whole
-        → number_in (first_refusal (if not whole then Answer.DumpForm else check_lines dump 0 258) (dock.judged (dumped_at dump) lent))
+        → number_in (first_refusal (if not whole then Err Refusal.DumpForm else check_lines dump 0 258) (dock.judged (dumped_at dump) lent))
         ≡ (if not whole then 7
         else if not (eqb (lines_number dump 0 258) 0) then lines_number dump 0 258 else content_number (dumped dump) lent)
-    by false e = first_number Answer.DumpForm (dock.judged (dumped_at dump) lent) refl refl
+    by false e = first_number (Err Refusal.DumpForm) (dock.judged (dumped_at dump) lent) refl refl
     by true e =
         let size = eqb-true (length dump) 18834 e in
         first_number (check_lines dump 0 258) (dock.judged (dumped_at dump) lent) (all_number dump size) (content_number_lem (dumped_at dump) lent)
@@ -127,7 +127,7 @@ listing_zero dump lent bad =
 -- ---- a dump that is accepted
 
 module _ (dump : List ℕ) (lent : List ℤ) (accepted : dump_number dump (length lent) ≡ 0) where
-  passes : (check_of dump ≡ Answer.Accepted) × (dock.judged (dumped_at dump) (length lent) ≡ Answer.Accepted)
+  passes : (check_of dump ≡ Ok tt) × (dock.judged (dumped_at dump) (length lent) ≡ Ok tt)
   passes = answer_only dump (length lent) (number_accepts (dump_number_lem dump (length lent) ∙ accepted))
 
   -- its bytes are those that the dock reads

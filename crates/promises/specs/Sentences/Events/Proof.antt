@@ -1,12 +1,13 @@
 -- The calls of a tag answer by document 01's numbers, a refusal leaves what it was given, and events keep a fit state. Assumes nothing.
-use Rattle.std.specs.Prelude.{◌≡◌, refl, Bool, true, false, not, ◌&&◌, List, ◌≢◌, ℕ, ◌+◌, ◌-◌, eqb, leb, ltb, length, get_or, replicate, if◌then◌else◌}
+use Rattle.std.specs.Prelude.{◌≡◌, refl, Bool, true, false, not, ◌&&◌, List, ◌≢◌, ℕ, ◌+◌, ◌-◌, eqb, leb, ltb, length, get_or, replicate, if◌then◌else◌, Ok, Err}
 use Rattle.std.proofs.Common.{sym, ap, ◌∙◌, arith, ne_eqb, get_or-set_same, get_or-set_other}
 use Rattle.std.proofs.Math.Bool.{and-false}
 use Rattle.std.proofs.Math.Logic.{dite}
 use Rattle.std.proofs.Math.Decide.{dec_le, ℕ_discrete}
 use Rattle.std.proofs.lemmas.List.{length-replicate}
 use Rattle.answer.specs.Answer.Laws.{accepted_is}
-use Rattle.answer.specs.declared.Answer.{Answer}
+use Rattle.answer.specs.Answer.{Answer}
+use Rattle.answer.specs.declared.Refusal.{Refusal}
 use Rattle.bits.specs.Bits.{bit_of}
 use Rattle.bits.specs.Bytes.{byte_blank}
 use Rattle.bits.specs.Choose.{choice}
@@ -16,7 +17,7 @@ use Rattle.exchange.specs.declared.Slotted.{Slotted}
 use Rattle.exchange.specs.Exchange.{slot_of}
 use Rattle.memory.specs.Memory as memory
 use Rattle.record.specs.declared.Tag.{Tag}
-use Rattle.record.specs.Record.{Outcome, good_number, good_code, refusal}
+use Rattle.record.specs.Record.{Outcome, good_number, good_code, unchanged}
 use Rattle.select.specs.declared.Choosing.{Choosing}
 use Rattle.select.specs.declared.Mode.{Mode}
 use Rattle.select.specs.Select as select
@@ -39,17 +40,17 @@ numbered true a b p q = p
 numbered false a b p q = q
 
 -- 0 is the number of no refusal
-number_refuses : {answer : Answer} {number : ℕ} → number_in answer ≡ number → number ≢ 0 → answer ≢ Answer.Accepted
+number_refuses : {answer : Answer} {number : ℕ} → number_in answer ≡ number → number ≢ 0 → answer ≢ (Ok tt)
 number_refuses p bad e = bad (sym p ∙ ap number_in e)
 
-pub number_accepts : {answer : Answer} → number_in answer ≡ 0 → answer ≡ Answer.Accepted
+pub number_accepts : {answer : Answer} → number_in answer ≡ 0 → answer ≡ Ok tt
 number_accepts {answer} e = accepted_is answer e
 
 -- an event's own number, by its code and reading
 own_number_lem : (code reading : ℕ) → number_in (event_answer code reading) ≡ own_number code reading
 unfolding event_answer own_number
 own_number_lem code reading =
-    numbered (ltb 4 code) Answer.EventCode _ refl (numbered (eqb code 3 && ltb 2047 reading) Answer.Reading Answer.Accepted refl refl)
+    numbered (ltb 4 code) (Err Refusal.EventCode) _ refl (numbered (eqb code 3 && ltb 2047 reading) (Err Refusal.Reading) (Ok tt) refl refl)
 
 -- an event's number, and a new tag's
 event_number_lem : (image : List ℕ) (tag : Tag) (code reading : ℕ) →
@@ -58,8 +59,8 @@ unfolding step_answer event_number
 event_number_lem image tag code reading =
     ap number_in (step_answer_lem image tag code reading)
     ∙ rw (← range_is tag)
-    (numbered (not (eqb (length image) 8832)) Answer.ImageLength _ refl
-    (numbered (not (in_range tag)) Answer.RecordRange (event_answer code reading) refl (own_number_lem code reading)))
+    (numbered (not (eqb (length image) 8832)) (Err Refusal.ImageLength) _ refl
+    (numbered (not (in_range tag)) (Err Refusal.RecordRange) (event_answer code reading) refl (own_number_lem code reading)))
 
 -- a number that 4 lets pass is one that the record's ranges do
 pub rom_is : (number : ℕ) → is_rom number ≡ good_number number
@@ -71,9 +72,9 @@ unfolding new_answer new_number good_code
 new_number_lem image number code =
     ap number_in (new_answer_lem image number code)
     ∙ rw (← rom_is number)
-    (numbered (not (eqb (length image) 8832)) Answer.ImageLength _ refl
-    (numbered (not (is_rom number)) Answer.RomNumber _ refl
-    (numbered (not (is_configuration code)) Answer.Configuration Answer.Accepted refl refl)))
+    (numbered (not (eqb (length image) 8832)) (Err Refusal.ImageLength) _ refl
+    (numbered (not (is_rom number)) (Err Refusal.RomNumber) _ refl
+    (numbered (not (is_configuration code)) (Err Refusal.Configuration) (Ok tt) refl refl)))
 
 -- the record of all zeros breaks its ranges
 zeros_number : (image : List ℕ) (code reading : ℕ) → event_number image (clear_tag 0 0) code reading ≡ (if eqb (length image) 8832 then 6 else 3)
@@ -87,7 +88,7 @@ zeros_number image code reading = by (eqb (length image) 8832)
 -- ---- what is left
 
 -- what a refusal gives, one by one
-refusal_gives : {o : Outcome} {answer : Answer} {image : List ℕ} {tag : Tag} → o ≡ refusal answer tag image →
+refusal_gives : {o : Outcome} {answer : Answer} {image : List ℕ} {tag : Tag} → o ≡ unchanged answer tag image →
     (o.answered.line ≡ true) × (o.answered.tag ≡ tag) × (o.image ≡ image)
 refusal_gives p = (ap (λ (o : Outcome). o.answered.line) p, ap (λ (o : Outcome). o.answered.tag) p, ap (λ (o : Outcome). o.image) p)
 
