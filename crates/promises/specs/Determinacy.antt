@@ -1,9 +1,13 @@
 -- "It is proved that any two outcomes allowed by one statement are equal" (document 01, "Holding the promises to account"): one
 -- statement, with a line for each public function of every crate, over its contract as the source states it. Assumes nothing.
+use denote.RattleType.{RattleType}
+use denote.Param.Laws.{Laws}
+use mir.Syntax.{Dict}
 use Rattle.std.specs.Prelude.{◌≡◌}
 use Rattle.std.proofs.Common.{sym, ◌∙◌}
 use Rattle.answer.proofs as answer
 use Rattle.bits.proofs as bits
+use Rattle.bits.specs.declared.Register.{Ghosts}
 use Rattle.crc.proofs as crc
 use Rattle.calendar.proofs as calendar
 use Rattle.image.proofs as image
@@ -41,12 +45,18 @@ with a b = (a, b)
 pub record Determinacy : Type 2 where
   -- answer
   pub answer_number_lem : Sole answer.number.Reads.Post (λ k r e. r)
+  pub answer_number_of : Sole answer.U8FromRefusal.from.Reads.Post (λ k r e. r)
   pub answer_refusal_text : Sole answer.refusal_text.Reads.Post (λ k r e. r)
   -- bits
   pub bits_digit : Sole bits.digit.Reads.Post (λ k r e. r)
   pub bits_bit : Sole bits.bit.Reads.Post (λ k r e. r)
-  pub bits_shift_in8 : Sole bits.shift_in8.Reads.Post (λ k r e. r)
-  pub bits_shift_in64 : Sole bits.shift_in64.Reads.Post (λ k r e. r)
+  -- of any register no two of which hold one number, as the trait asks
+  pub bits_shift_in : (R : RattleType) (L : Laws R) (g : Ghosts R.Denot) (d : Dict) → ((a b : R.Denot) → g.number a ≡ g.number b → a ≡ b) →
+      Sole (bits.shift_in.Reads.Post R L g d) (λ k r e. r)
+  pub bits_byte_half : Sole bits.U8Register.half.Reads.Post (λ k r e. r)
+  pub bits_byte_topped : Sole bits.U8Register.topped.Reads.Post (λ k r e. r)
+  pub bits_field_half : Sole bits.U64Register.half.Reads.Post (λ k r e. r)
+  pub bits_field_topped : Sole bits.U64Register.topped.Reads.Post (λ k r e. r)
   pub bits_parting : Sole bits.parting.Reads.Post (λ k r e. r)
   -- crc
   pub crc_crc16_bit : Sole crc.crc16_bit.Reads.Post (λ k r e. r)
@@ -200,11 +210,15 @@ pub determinacy : Determinacy
 determinacy =
     record {
       answer_number_lem = λ k a r s e f p q. p ∙ sym q;
+      answer_number_of = λ k a r s e f p q. p ∙ sym q;
       answer_refusal_text = λ k a r s e f p q. p ∙ sym q;
       bits_digit = λ k a r s e f p q. p ∙ sym q;
       bits_bit = λ k a r s e f p q. p ∙ sym q;
-      bits_shift_in8 = λ k a r s e f p q. p ∙ sym q;
-      bits_shift_in64 = λ k a r s e f p q. p ∙ sym q;
+      bits_shift_in = λ R L g d same k a r s e f p q. same _ _ (p ∙ sym q);
+      bits_byte_half = λ k a r s e f p q. p.0 ∙ sym q.0;
+      bits_byte_topped = λ k a r s e f p q. p ∙ sym q;
+      bits_field_half = λ k a r s e f p q. p.0 ∙ sym q.0;
+      bits_field_topped = λ k a r s e f p q. p ∙ sym q;
       bits_parting = λ k a r s e f p q. p ∙ sym q;
       crc_crc16_bit = λ k a r s e f p q. p ∙ sym q;
       crc_crc16_byte = λ k a r s e f p q. p ∙ sym q;
