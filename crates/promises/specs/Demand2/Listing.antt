@@ -1,6 +1,6 @@
 -- What the dock lists of an image that holds a mission's entries. Assumes nothing.
 use Rattle.answer.specs.declared.Refusal.{Refusal}
-use Rattle.std.specs.Prelude.{◌≡◌, refl, Bool, true, false, not, ◌&&◌, ◌||◌, List, ℕ, ◌+◌, ◌-◌, ◌≤◌, ◌<◌, min, eqb, ltb, ℤ, pos, length, get_or, if◌then◌else◌, Ok}
+use Rattle.std.specs.Prelude.{◌≡◌, refl, Bool, true, false, not, ◌&&◌, ◌||◌, List, ℕ, ◌+◌, ◌-◌, ◌≤◌, ◌<◌, min, eqb, ltb, ℤ, pos, length, get_or, if◌then◌else◌, Ok, Err}
 use Rattle.std.proofs.Math.Path.{sym}
 use Rattle.std.proofs.Common.{ap, ◌∙◌, arith, eqb-true, le-ltb}
 use Rattle.std.proofs.lemmas.Bool.{false≢true, eqb-false}
@@ -166,7 +166,7 @@ module _ {start : List ℕ} {es : List Conversion} {image : List ℕ} (p : Liste
 
     -- too few places
     module _ (lent : List ℤ) (few : length lent < min (length es) (conversion.places start)) where
-      pub few_read : (listing_of (dump_of image code) (length lent) ≡ refused Refusal.Places) × (temperatures_of (dump_of image code) lent ≡ lent)
+      pub few_read : (listing_of (dump_of image code) (length lent) ≡ refused (Err Refusal.Places)) × (temperatures_of (dump_of image code) lent ≡ lent)
       few_read =
           let less : length lent < Entries.held (sent_at image code) = rw held_read few in (
             memory_few (dump_of image code) (sent_at image code) lines same kept can (length lent) less,
