@@ -98,10 +98,10 @@ pub fn status_byte(held: Held) -> u8
     128 * u8::from(held.aa) + 32 * u8::from(held.pf) + held.ending % 32
 }
 
-// The scratchpad's byte at a place; past its end there is none, and 0 stands for it.
+// The scratchpad's byte at a place; past its end there is none, and 0 stands for it. By index, as `image::peek`.
 #[tactic(auto, unfolding(crate::specs::Bus::pad_byte))]
 pub fn pad_byte(held: Held, place: u8) -> u8
     ensures { result ≡ pad_byte held place }
 {
-    held.pad.get(usize::from(place)).copied().unwrap_or(0)
+    if place < 32 { held.pad[usize::from(place)] } else { 0 }
 }

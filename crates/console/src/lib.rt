@@ -8,7 +8,6 @@ ghost use Rattle.answer.specs.Answer.{answer_number};
 ghost use Rattle.console.specs.Console.{begun_in, groups_in, Behind, Reply, Answers, Leaves, played, reading_of, reply_text};
 
 use answer::Refusal;
-use image::{peek, poke};
 use std::io::{Print, Read, Stdin, Stdout};
 
 // How a program takes events, each a group of N bytes: by a record that goes in and comes back, and bytes lent to it.
@@ -163,16 +162,11 @@ pub fn put_answer(out: &mut [u8], at: usize, answer: Result<bool, u8>) -> usize
 }
 
 // Puts a text, as much of it as there is room for, and returns its length.
-#[tactic(auto, using(bits::specs::Stores::sets_past, crate::proofs::Console::Laws::put_more))]
 fn put(out: &mut [u8], at: usize, text: &[u8]) -> usize
     ensures value { result ≡ length text.now }
     ensures out_after { out.new ≡ sets out.old at text.now }
 {
-    if at < out.len() {
-        for (i, byte) in text.iter().enumerate() {
-            poke(out, at + i, *byte);
-        }
-    }
+    image::put_bytes(out, at, text);
     text.len()
 }
 

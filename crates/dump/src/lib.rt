@@ -34,8 +34,7 @@ pub fn read(dump: &[u8]) -> Result<[u8; MEMORY], Refusal>
     for line in 0..LINES {
         let start = LINE * line;
         let data = read_text(&dump[start..start + LINE], page_of(line))?;
-        let at = DATA * line;
-        memory[at..at + DATA].copy_from_slice(&data);
+        image::put_bytes(&mut memory, DATA * line, &data);
     }
     Ok(memory)
 }
@@ -75,12 +74,12 @@ fn crc_right(bytes: [u8; 36]) -> bool
 }
 
 // The data bytes of a line.
-#[tactic(auto, unfolding(crate::specs::Lines::data_in))]
+#[tactic(auto, using(bits::specs::Stores::sets_whole), unfolding(crate::specs::Lines::data_in))]
 fn data_in(bytes: [u8; 36]) -> [u8; DATA]
     ensures { result ≡ data_in bytes }
 {
     let mut data = [0u8; DATA];
-    data.copy_from_slice(&bytes[2..34]);
+    image::put_bytes(&mut data, 0, &bytes[2..34]);
     data
 }
 

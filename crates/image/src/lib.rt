@@ -3,6 +3,7 @@
 #![tactic(auto)]
 
 ghost use Rattle.std.specs.Prelude.{◌≡◌, min, get_or, set};
+ghost use Rattle.std.proofs.lemmas.List.Edits.{sets};
 ghost use Rattle.image.specs.Answers.{alarmed, may_read, may_control, may_copy};
 ghost use Rattle.image.specs.Fields.{word_at, put_word, flag_at, put_flag};
 ghost use Rattle.image.specs.Map.{region_at};
@@ -168,11 +169,11 @@ pub fn put_flag(image: &mut [u8], bit: Bit, b: bool)
     }
 }
 
-// The byte at `at`; past the end, 0.
+// The byte at `at`; past the end, 0. By index: what `get` answers lies otherwise where a pointer has 32 bits (chip/README.md).
 pub fn peek(image: &[u8], at: usize) -> u8
     ensures { result ≡ get_or image.now at 0 }
 {
-    image.get(at).copied().unwrap_or(0)
+    if at < image.len() { image[at] } else { 0 }
 }
 
 // Stores a byte at `at`; past the end, nothing. By index: of a write through `get_mut` a proof knows the length alone.
@@ -181,6 +182,20 @@ pub fn poke(image: &mut [u8], at: usize, b: u8)
 {
     if at < image.len() {
         image[at] = b;
+    }
+}
+
+// Stores bytes from `at` on; what falls past the end is left out. By index: the library's copy takes addresses for numbers, which the build
+// for chips lets through nowhere (chip/README.md, "No pointer is a number").
+#[tactic(auto, using(bits::specs::Stores::sets_past, crate::specs::Fields::Laws::bytes_more))]
+pub fn put_bytes(image: &mut [u8], at: usize, bytes: &[u8])
+    ensures { image.new ≡ sets image.old at bytes.now }
+{
+    if image.len() <= at {
+        return;
+    }
+    for (i, &byte) in bytes.iter().enumerate() {
+        poke(image, at + i, byte);
     }
 }
 

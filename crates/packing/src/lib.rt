@@ -95,19 +95,12 @@ fn put_words(lent: &mut [u8], tag: Tag)
     put(lent, 40, &field.to_le_bytes());
 }
 
-// Stores bytes from a place on; past the end, nothing. No `copy_from_slice`: the library's takes addresses for numbers, which the build
-// for chips lets through nowhere (chip/README.md, "No pointer is a number").
+// Stores bytes from a place on; past the end, nothing.
 pub fn put(lent: &mut [u8], at: usize, bytes: &[u8])
     ensures lent_after { lent.new ≡ sets lent.old at bytes.now }
     ensures bytes { Bytes bytes.now }
 {
-    let count = bytes.len();
-    if lent.len() <= at {
-        return;
-    }
-    for i in 0..count {
-        image::poke(lent, at + i, bytes[i]);
-    }
+    image::put_bytes(lent, at, bytes);
 }
 
 // ---- unpacking

@@ -79,6 +79,7 @@ pub record Determinacy : Type 2 where
   pub image_put_word : Sole image.put_word.Reads.Post (λ k r e. e.0.now)
   pub image_flag : Sole image.flag.Reads.Post (λ k r e. r)
   pub image_put_flag : Sole image.put_flag.Reads.Post (λ k r e. e.0.now)
+  pub image_put_bytes : Sole image.put_bytes.Reads.Post (λ k r e. e.0.now)
   pub image_peek : Sole image.peek.Reads.Post (λ k r e. r)
   pub image_poke : Sole image.poke.Reads.Post (λ k r e. e.0.now)
   pub image_alarm : Sole image.alarm.Reads.Post (λ k r e. r)
@@ -238,6 +239,7 @@ determinacy =
       image_put_word = λ k a r s e f p q. p ∙ sym q;
       image_flag = λ k a r s e f p q. p ∙ sym q;
       image_put_flag = λ k a r s e f p q. p ∙ sym q;
+      image_put_bytes = λ k a r s e f p q. p ∙ sym q;
       image_peek = λ k a r s e f p q. p ∙ sym q;
       image_poke = λ k a r s e f p q. p ∙ sym q;
       image_alarm = λ k a r s e f p q. p ∙ sym q;

@@ -1,7 +1,7 @@
 -- Laws of groups, of texts and of sessions. Assumes nothing.
-use Rattle.std.specs.Prelude.{Bool, true, false, List, [], ◌∷◌, ◌++◌, ◌≡◌, ℕ, ◌+◌, ◌-◌, ◌%◌, ◌≤◌, ◌<◌, min, eqb, get_or, set, take, drop, Result, Ok, Err, if◌then◌else◌}
+use Rattle.std.specs.Prelude.{Bool, true, false, List, [], ◌∷◌, ◌++◌, ◌≡◌, ℕ, ◌+◌, ◌-◌, ◌%◌, ◌≤◌, ◌<◌, min, eqb, get_or, take, drop, Result, Ok, Err, if◌then◌else◌}
 use Rattle.std.proofs.Math.Path.{refl}
-use Rattle.std.proofs.Common.{sym, true≢false, ◌∙◌, add_assoc, zero-add, add-one, arith, eqb-true, ne_eqb, length-append, length-take, take-suc, length-take-le, get_or-take, get_or-drop}
+use Rattle.std.proofs.Common.{sym, true≢false, ◌∙◌, add_assoc, zero-add, add-one, arith, eqb-true, ne_eqb, length-append, length-take, get_or-take, get_or-drop}
 use Rattle.std.proofs.Math.Nat.{add-zero, div-eq-sub-div, div-eq_of_lt, mod-le}
 use Rattle.std.proofs.lemmas.List.{drop-take, take_min}
 use Rattle.std.proofs.Math.ListN.{length, length-drop}
@@ -59,13 +59,6 @@ begun_moved size held l end begun e b =
     rw (last, ← moved) (rw count at (sym (sets-eq bytes l 0 all)))
 
 -- ---- texts
-
--- one more byte of a text is put
-pub put_more : (l : List ℕ) (at : ℕ) (text : List ℕ) (i : ℕ) → i < length text →
-    set (sets l at (take i text)) (at + i) (get_or text i 0) ≡ sets l at (take (i + 1) text)
-put_more l at text i more =
-    let some : length (take i text) ≡ i = length-take-le i text (omega arith) in
-    rw (add-one, take-suc text i 0 more) (rw (sets_join l at (take i text), some))
 
 -- a refusal's text is that of its number
 pub refused_text : (number : ℕ) (line : Bool) → 0 < number → answer_text number line ≡ refusal_text number

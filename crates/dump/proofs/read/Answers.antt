@@ -1,16 +1,14 @@
 -- `dump::read` meets its contract: the first line that is refused answers for the dump, and each line before it has stored its data.
 -- Assumes nothing.
-use Rattle.std.proofs.Common.{ℕ, ◌≡◌, Ok, Err, ◌+◌, ◌-◌, ◌*◌, ◌<◌, List, length, take, drop, refl, sym, ap, ◌∙◌, append_assoc, drop-drop, arith}
+use Rattle.std.proofs.Common.{ℕ, ◌≡◌, Ok, Err, ◌+◌, ◌-◌, ◌*◌, List, take, drop, refl, sym, ap, ◌∙◌, arith}
 use Rattle.std.proofs.Math.Seq.{length-sets}
 use Rattle.std.proofs.lemmas.Result.{err_from_is_err_and}
-use borrow.Rule.Slice.PartMut.{put_mid}
-use Rattle.std.proofs.lemmas.List.Edits.{sets, sets-eq}
 use Rattle.answer.specs.declared.Refusal.{Refusal}
 use Rattle.answer.specs.Answer.Laws.{refusal_counts}
 use Rattle.answer.specs.Answer.{answer_number}
 use Rattle.bits.specs.Stores.{sets_whole}
 use Rattle.dump.specs.Lines.{page_of, line_at, bytes_in, data_in, data_lines}
-use Rattle.dump.specs.Lines.Memory.{length_data_lines, length_line_data, store_line}
+use Rattle.dump.specs.Lines.Memory.{length_data_lines, store_line}
 use Rattle.dump.specs.Check.{check_text, check_line, check_of, read_text}
 use Rattle.dump.specs.Check.Laws.{first_refused, first_accepted, lines_more, lines_none, check_length, check_lines_lem, and_refused, and_accepted, read_refused, read_accepted}
 use Rattle.dump.proofs.read.Goals as goal
@@ -43,13 +41,6 @@ module _ (dump : List ℕ) (line : ℕ) {page : ℕ} (asked : page ≡ page_of l
   unfolding check_line read_text
   line_accepted e = and_accepted (check_text (line_at dump line) (page_of line)) _ (rw (cut dump line, asked) at (sym e))
 
--- stored in its place
-stored : (memory bytes : List ℕ) (line : ℕ) → line < 258 → length memory ≡ 8256 → length bytes ≡ 32
-    → put_mid (32 * line) (32 * line + 32 - 32 * line) memory bytes ≡ sets memory (32 * line) bytes
-stored memory bytes line inside whole long =
-    let count : 32 * line + 32 - 32 * line ≡ 32 = omega arith in
-    rw (sets-eq bytes memory (32 * line) (omega arith), count, drop-drop 32 (32 * line) memory, long, append_assoc)
-
 -- ---- the answers
 
 pub returns-in_err-data : goal.returns-in_err-data
@@ -72,13 +63,11 @@ loop-line-preserved c =
     let turn = c.loop-line in
     let here = check_line dump turn.line in
     let read = line_accepted dump turn.line c.page_of.ensures c.in_ok-data.ensures in
-    let long : length c.in_ok-data.data ≡ 32 = rw read.1 (length_line_data dump turn.line) in
-    let store = stored turn.memory c.in_ok-data.data turn.line c.loop-line-test.true turn.invariant.1 long in
     let less : 258 - (turn.line + 1) ≡ 258 - turn.line - 1 = omega arith in
     let all = lines_more dump turn.line (258 - turn.line) (omega arith) in (
       rw less (sym (first_accepted here _ (ap answer_number read.0)) ∙ sym all ∙ turn.invariant.0),
-      rw (c.copy_from_slice.ensures.after, store) (length-sets turn.memory (32 * turn.line) c.in_ok-data.data ∙ turn.invariant.1),
-      rw (c.copy_from_slice.ensures.after, store, read.1) (sym (store_line dump turn.memory turn.line c.loop-line-test.true) ∙ turn.invariant.2),
+      rw c.put_bytes.ensures (length-sets turn.memory (32 * turn.line) c.in_ok-data.data ∙ turn.invariant.1),
+      rw (c.put_bytes.ensures, read.1) (sym (store_line dump turn.memory turn.line c.loop-line-test.true) ∙ turn.invariant.2),
     )
 
 pub returns : goal.returns

@@ -1,7 +1,9 @@
 -- What is put into a field is read back, and a put leaves every field apart from it: once for each kind of field, over
 -- place and size. For two fields whose places are numerals, `apart` computes, and `tt` closes it. Assumes nothing.
-use Rattle.std.specs.Prelude.{◌≡◌, refl, Bool, true, false, not, ◌&&◌, ◌||◌, List, ◌≢◌, ◌⊎◌, ℕ, zero, suc, ◌+◌, ◌-◌, ◌*◌, ◌/◌, ◌%◌, ◌^◌, ◌≤◌, ◌<◌, T, leb, ltb, eqb, length, get_or, set, if◌then◌else◌}
-use Rattle.std.proofs.Common.{sym, ◌∙◌, subst, inl, inr, ⊎_elim, pow-suc, arith, lt-ltb, ltb-true, eq-eqb, ne_eqb, T_not, leb→le, le→leb, ltb→lt, length-set, get_or-set_same, get_or-set_other}
+use Rattle.bits.specs.Stores.{sets_join}
+use Rattle.std.proofs.lemmas.List.Edits.{sets}
+use Rattle.std.specs.Prelude.{◌≡◌, refl, Bool, true, false, not, ◌&&◌, ◌||◌, List, ◌≢◌, ◌⊎◌, ℕ, zero, suc, ◌+◌, ◌-◌, ◌*◌, ◌/◌, ◌%◌, ◌^◌, ◌≤◌, ◌<◌, T, leb, ltb, eqb, length, get_or, set, if◌then◌else◌, take}
+use Rattle.std.proofs.Common.{sym, ◌∙◌, subst, inl, inr, ⊎_elim, pow-suc, arith, lt-ltb, ltb-true, eq-eqb, ne_eqb, T_not, leb→le, le→leb, ltb→lt, length-set, get_or-set_same, get_or-set_other, add-one, take-suc, length-take-le}
 use Rattle.std.specs.Bool.{beq}
 use Rattle.std.proofs.Math.Logic.{dite}
 use Rattle.std.proofs.Math.Nat.{mod-one, one-le-pow, lt_of_lt_of_le, pow-le-pow_right}
@@ -290,3 +292,12 @@ pub word_blank : (n at count : ℕ) → word_at (blank n) at count ≡ 0
 unfolding word_at
 word_blank n at zero = refl
 word_blank n at (suc count) = rw (byte_blank n at, word_blank n (suc at) count)
+
+-- ---- bytes from a place on
+
+-- one more of them is stored
+pub bytes_more : (l : List ℕ) (at : ℕ) (bytes : List ℕ) (i : ℕ) → i < length bytes →
+    set (sets l at (take i bytes)) (at + i) (get_or bytes i 0) ≡ sets l at (take (i + 1) bytes)
+bytes_more l at bytes i more =
+    let some : length (take i bytes) ≡ i = length-take-le i bytes (omega arith) in
+    rw (add-one, take-suc bytes i 0 more) (rw (sets_join l at (take i bytes), some))
