@@ -103,5 +103,9 @@ pub fn status_byte(held: Held) -> u8
 pub fn pad_byte(held: Held, place: u8) -> u8
     ensures { result ≡ pad_byte held place }
 {
-    if place < 32 { held.pad[usize::from(place)] } else { 0 }
+    if place < 32 {
+        held.pad[usize::from(place)]
+    } else {
+        0
+    }
 }
