@@ -8,35 +8,35 @@ ghost use Rattle.answer.specs.Answer.{refusal_number, answer_number, refusal_tex
 #[derive(Clone, Copy, PartialEq, Eq)]
 pub enum Refusal {
     // An event code above 4, or a list's word that is no event.
-    EventCode,
+    EventCode = 1,
     // A tick with a reading above 2047.
-    Reading,
+    Reading = 2,
     // An image length that is not 8,832.
-    ImageLength,
+    ImageLength = 3,
     // A new tag whose first ROM byte is not 41h, or whose CRC-8 is wrong.
-    RomNumber,
+    RomNumber = 4,
     // A new tag whose configuration code is not 40h or 60h.
-    Configuration,
+    Configuration = 5,
     // A record that breaks its ranges.
-    RecordRange,
+    RecordRange = 6,
     // A dump that is not 18,834 bytes, or a line that is not 72 digits and a line feed.
-    DumpForm,
+    DumpForm = 7,
     // A dump line whose CRC is wrong.
-    LineCrc,
+    LineCrc = 8,
     // A dump line with another page than its place asks.
-    LinePage,
+    LinePage = 9,
     // A dump in which MEMCLR is 1.
-    Cleared,
+    Cleared = 10,
     // A dump with a bad code, rate 0, ETL 0, or counts that can't be.
-    Counts,
+    Counts = 11,
     // Fewer places lent for temperatures than entries held.
-    Places,
+    Places = 12,
     // Two tags on a line with the same number.
-    SameNumber,
+    SameNumber = 13,
     // A line of no tag or of more than seven, or a tick for a place that has none.
-    TagPlace,
+    TagPlace = 14,
     // Fewer reply bytes lent than the list has words.
-    Replies,
+    Replies = 17,
 }
 
 // The number that document 01, or a change request, gives the answer.
@@ -53,23 +53,7 @@ impl From<Refusal> for u8 {
     ghost from_gives = { λ refusal number. number ≡ refusal_number refusal };
 
     fn from(refusal: Refusal) -> u8 {
-        match refusal {
-            Refusal::EventCode => 1,
-            Refusal::Reading => 2,
-            Refusal::ImageLength => 3,
-            Refusal::RomNumber => 4,
-            Refusal::Configuration => 5,
-            Refusal::RecordRange => 6,
-            Refusal::DumpForm => 7,
-            Refusal::LineCrc => 8,
-            Refusal::LinePage => 9,
-            Refusal::Cleared => 10,
-            Refusal::Counts => 11,
-            Refusal::Places => 12,
-            Refusal::SameNumber => 13,
-            Refusal::TagPlace => 14,
-            Refusal::Replies => 17,
-        }
+        refusal as u8
     }
 }
 

@@ -112,12 +112,7 @@ impl Numbered for Mode {
     ghost back = { mode_back };
 
     fn number(self) -> u8 {
-        match self {
-            Mode::Plain => 0,
-            Mode::Marked => 1,
-            Mode::Overdrive => 2,
-            Mode::OverdriveMarked => 3,
-        }
+        self as u8
     }
 
     #[tactic(auto, unfolding(crate::specs::Codes::mode_of))]

@@ -145,11 +145,7 @@ impl Numbered for Addressed {
     ghost back = { addressed_back };
 
     fn number(self) -> u8 {
-        match self {
-            Addressed::Write => 0,
-            Addressed::Copy => 1,
-            Addressed::Read => 2,
-        }
+        self as u8
     }
 
     #[tactic(auto, unfolding(crate::specs::Codes::addressed_of))]
@@ -172,12 +168,7 @@ impl Numbered for Control {
     ghost back = { control_back };
 
     fn number(self) -> u8 {
-        match self {
-            Control::Clear => 0,
-            Control::Start => 1,
-            Control::Stop => 2,
-            Control::Convert => 3,
-        }
+        self as u8
     }
 
     #[tactic(auto, unfolding(crate::specs::Codes::control_of))]
@@ -201,10 +192,7 @@ impl Numbered for Next {
     ghost back = { next_back };
 
     fn number(self) -> u8 {
-        match self {
-            Next::Nothing => 0,
-            Next::Page => 1,
-        }
+        self as u8
     }
 
     #[tactic(auto, unfolding(crate::specs::Codes::next_of))]
