@@ -57,7 +57,7 @@ impl From<Refusal> for u8 {
     }
 }
 
-// What a refusal prints: R, its number in two decimal digits, and a line feed.
+// What a refusal prints: R, its number in two decimal digits, and a line feed. Of any number, as `promises` `Demand1` speaks of it.
 pub fn refusal_text(number: u8) -> [u8; 4]
     ensures { result ≡ refusal_text number }
 {

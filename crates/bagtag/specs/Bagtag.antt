@@ -3,7 +3,7 @@
 use Rattle.std.specs.Prelude.{true, not, List, [], ◌∷◌, ◌++◌, ◌≡◌, ℕ, ◌≤◌, eqb, ltb, ℤ, length, if◌then◌else◌, Err}
 use Rattle.std.proofs.lemmas.List.Edits.{sets}
 use Rattle.answer.specs.declared.Refusal.{Refusal}
-use Rattle.answer.specs.Answer.{refusal_number, answer_number}
+use Rattle.answer.specs.Answer.{Answer, answer_number}
 use Rattle.batch.specs.Batch as batch
 use Rattle.bits.specs.Bits.{digit}
 use Rattle.dock.specs.declared.Listing.{Listing}
@@ -25,16 +25,16 @@ pub record New : Type 0 where
 abbrev pub made : Outcome → New
 made o = record { number = answer_number o.answered.answer; image = o.image; lent = packed o.answered.tag }
 
-abbrev pub not_made : Refusal → List ℕ → List ℕ → New
-not_made refusal image lent = record { number = refusal_number refusal; image = image; lent = lent }
+abbrev pub not_made : Answer → List ℕ → List ℕ → New
+not_made answer image lent = record { number = answer_number answer; image = image; lent = lent }
 
 -- "3, then 6 for the record's length alone, then 4, 5"; "a refused `bagtag_new` packs the record of all zeros where the record's length is
 -- right"
 unfoldable pub new_call : List ℕ → List ℕ → ℕ → ℕ → New
 new_call image lent number code =
     if eqb (length lent) 80 then made (new_tag image number code)
-    else if not (eqb (length image) 8832) then not_made Refusal.ImageLength image lent
-    else not_made Refusal.RecordRange image lent
+    else if not (eqb (length image) 8832) then not_made (Err Refusal.ImageLength) image lent
+    else not_made (Err Refusal.RecordRange) image lent
 
 -- the record that it leaves fits its bytes
 abbrev pub NewFits : List ℕ → List ℕ → ℕ → ℕ → Type 0
@@ -49,8 +49,8 @@ pub record Event : Type 0 where
   pub line : ℕ
 
 -- "A refusal changes no lent byte"; "`*line` is then 1"
-abbrev pub no_event : Refusal → List ℕ → List ℕ → Event
-no_event refusal image lent = record { number = refusal_number refusal; image = image; lent = lent; line = 1 }
+abbrev pub no_event : Answer → List ℕ → List ℕ → Event
+no_event answer image lent = record { number = answer_number answer; image = image; lent = lent; line = 1 }
 
 abbrev pub stepped : Outcome → Event
 stepped o =
@@ -64,8 +64,8 @@ stepped o =
 -- "A record of another length, version or with an encoding that no record has is 6, in 6's place of the order"
 unfoldable pub event_call : List ℕ → List ℕ → ℕ → ℕ → Event
 event_call image lent code reading =
-    if not (eqb (length image) 8832) then no_event Refusal.ImageLength image lent
-    else if not (is_packed lent) then no_event Refusal.RecordRange image lent
+    if not (eqb (length image) 8832) then no_event (Err Refusal.ImageLength) image lent
+    else if not (is_packed lent) then no_event (Err Refusal.RecordRange) image lent
     else stepped (step image (unpacked lent) code reading)
 
 -- the record that it leaves fits its bytes
@@ -82,8 +82,8 @@ pub record Events : Type 0 where
   pub replies : List ℕ
   pub done : ℕ
 
-abbrev pub no_events : Refusal → List ℕ → List ℕ → List ℕ → Events
-no_events refusal image lent replies = record { number = refusal_number refusal; image = image; lent = lent; replies = replies; done = 0 }
+abbrev pub no_events : Answer → List ℕ → List ℕ → List ℕ → Events
+no_events answer image lent replies = record { number = answer_number answer; image = image; lent = lent; replies = replies; done = 0 }
 
 abbrev pub done : batch.Listed → Events
 done l =
@@ -98,9 +98,9 @@ done l =
 -- "17, checked before all others; then 3 and 6"; "answer 1 of `bagtag_events` keeps the words done before it"
 unfoldable pub events_call : List ℕ → List ℕ → List ℕ → List ℕ → Events
 events_call image lent words replies =
-    if ltb (length replies) (length words) then no_events Refusal.Replies image lent replies
-    else if not (eqb (length image) 8832) then no_events Refusal.ImageLength image lent replies
-    else if not (is_packed lent) then no_events Refusal.RecordRange image lent replies
+    if ltb (length replies) (length words) then no_events (Err Refusal.Replies) image lent replies
+    else if not (eqb (length image) 8832) then no_events (Err Refusal.ImageLength) image lent replies
+    else if not (is_packed lent) then no_events (Err Refusal.RecordRange) image lent replies
     else done (batch.listed image (unpacked lent) words replies)
 
 -- the record that it leaves fits its bytes

@@ -1,4 +1,5 @@
 // The functions for C, exported under their names: each calls the function of bagtag that has its name, and says what that one says.
+// They stand a second time here, since no crate can stand on a static library, and `promises` stands on that one.
 #![tactic(auto)]
 
 ghost use Rattle.std.specs.Prelude.{◌≡◌, length};

@@ -2,7 +2,7 @@
 // Every function answers any input.
 #![tactic(auto)]
 
-ghost use Rattle.std.specs.Prelude.{◌≡◌, ℕ, ◌+◌, ◌-◌, ◌/◌, ◌^◌, ◌<◌};
+ghost use Rattle.std.specs.Prelude.{◌≡◌, ℕ, ◌+◌, ◌-◌, ◌/◌, ◌%◌, ◌^◌, ◌<◌};
 ghost use Rattle.bits.specs.Bits.{digit, bit_of, shift_in};
 ghost use Rattle.bits.specs.Parting.{parting_of};
 
@@ -33,10 +33,9 @@ pub trait Register {
         ensures moved { number result ≡ number self / 2 }
         ensures free { number result < 2 ^ (width - 1) };
 
-    // One more bit, at its top.
+    // Its top bit is 1, and the others are kept.
     fn topped(self) -> Self
-        requires { number self < 2 ^ (width - 1) }
-        ensures { number result ≡ number self + 2 ^ (width - 1) };
+        ensures { number result ≡ number self % 2 ^ (width - 1) + 2 ^ (width - 1) };
 
     // No two registers hold one number.
     ghost same: { (a b : Self) → number a ≡ number b → a ≡ b };
@@ -55,7 +54,7 @@ impl Register for u8 {
     }
 
     fn topped(self) -> u8 {
-        self + 128
+        self % 128 + 128
     }
 }
 
@@ -71,7 +70,7 @@ impl Register for u64 {
     }
 
     fn topped(self) -> u64 {
-        self + (1 << 63)
+        self % (1 << 63) + (1 << 63)
     }
 }
 

@@ -3,7 +3,7 @@
 // refusal changes nothing, wherever the fault stands.
 //
 // Numbers and codes are two slices, as C lends them (include/bagtag.h); code, place and reading are document 01's numbers, and any may come.
-// What is written is written by index: after `iter_mut` or `chunks_exact_mut` a proof knows lengths and no element.
+// What is written is written by place: a record, its number and its part of the block have the same, and slices side by side would say less.
 #![tactic(auto)]
 
 ghost use Rattle.std.specs.Prelude.{◌≡◌, length, get_or};

@@ -17,13 +17,13 @@ pub fn advance(image: &mut [u8])
     let seconds = calendar::step_seconds(image::register(image, 0x00));
     if seconds.carry {
         let next = calendar::next(read(image));
-        put(image, CLOCK as u16, next);
+        put(image, CLOCK, next);
     } else {
         let next = Clock {
             seconds: seconds.byte,
             ..read(image)
         };
-        put(image, CLOCK as u16, next);
+        put(image, CLOCK, next);
     }
 }
 
@@ -43,8 +43,7 @@ pub(crate) fn read(image: &[u8]) -> Clock
 }
 
 // Stores a clock's six bytes: in the clock's registers, or as the stamp.
-#[tactic(auto, using(crate::specs::Clock::Laws::put_bytes_next), unfolding(crate::specs::Clock::put_clock, crate::specs::Clock::put_bytes))]
-pub(crate) fn put(image: &mut [u8], at: u16, clock: Clock)
+pub(crate) fn put(image: &mut [u8], at: usize, clock: Clock)
     ensures { image.new ≡ put_clock image.old at clock }
 {
     let six = [
@@ -55,7 +54,5 @@ pub(crate) fn put(image: &mut [u8], at: u16, clock: Clock)
         clock.month,
         clock.year,
     ];
-    for (i, b) in six.iter().enumerate() {
-        image::poke(image, at as usize + i, *b);
-    }
+    image::put_bytes(image, at, &six);
 }

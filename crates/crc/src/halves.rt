@@ -1,5 +1,5 @@
 // Eight tables of sixteen for CRC-16 by half-bytes: what a half-byte in the register becomes after 4, 8 .. 32 zeros.
-ghost use Rattle.std.specs.Prelude.{◌≡◌, ◌<◌};
+ghost use Rattle.std.specs.Prelude.{◌≡◌, min};
 ghost use Rattle.crc.specs.Crc.Halves.{byte_tabled};
 
 #[rattlefmt::skip]
@@ -22,10 +22,11 @@ static TABLES: [[u16; 16]; 8] = [
      0x6002, 0x9C03, 0xD803, 0x2402, 0x5003, 0xAC02, 0xE802, 0x1403],
 ];
 
-// What a byte in the register becomes after 4 `at` + 8 zeros. Its low half has four of them more than its high half to go through.
+// What a byte in the register becomes after 4 `at` + 8 zeros, for an `at` up to 6. Its low half has four of them more than its high half to
+// go through.
 pub(crate) fn byte_tabled(at: usize, byte: u8) -> u16
-    requires { at < 7 }
-    ensures { result ≡ byte_tabled at byte }
+    ensures { result ≡ byte_tabled (min at 6) byte }
 {
+    let at = at.min(6);
     TABLES[at + 1][(byte % 16) as usize] ^ TABLES[at][(byte / 16) as usize]
 }

@@ -4,8 +4,7 @@
 #![tactic(auto)]
 
 ghost use Rattle.std.specs.Prelude.{[], ◌∷◌, ◌≡◌};
-ghost use Rattle.bits.specs.Bits.{bit_of};
-ghost use Rattle.crc.specs.Crc.{crc16_bit, crc16_byte, crc16_run, sent_low, sent_high, crc8_bit, crc8_byte, crc8_of, good_crc, crc_bit, crc_byte};
+ghost use Rattle.crc.specs.Crc.{crc16_bit, crc16_byte, crc16_run, sent_low, sent_high, crc8_of, good_crc, crc_bit, crc_byte};
 
 mod halves;
 

@@ -4,7 +4,8 @@ ghost use Rattle.bits.specs.Bits.{bit_of};
 ghost use Rattle.dump.specs.Lines.{memory_at};
 ghost use Rattle.dock.specs.Registers.{rate, stamp, mission_samples, code};
 
-// One bit of a register: the register's address, and which of its eight bits it is, 0 the lowest.
+// One bit of a register: the register's address, and which of its eight bits it is, 0 the lowest. No `image::Bit`, which has a slice's place:
+// a dump's bytes are asked for by their addresses.
 #[derive(Clone, Copy)]
 pub(crate) struct Bit(u16, u8);
 

@@ -1,6 +1,7 @@
 // The exchange on the line as a machine by value: a tag is chosen, then one memory command is carried on, slot by slot.
 // It never sees the image. What it must know it asks (`ask`), and what is to be done it returns (a `Deed`).
 // Public functions stay free, and no methods of `Exchange`: `promises` `Determinacy` has a line for each by its name.
+// An answer stays a number, as `memory` has it.
 #![tactic(auto)]
 
 ghost use Rattle.std.specs.Prelude.{◌≡◌, eqb};

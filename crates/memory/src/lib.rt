@@ -2,6 +2,7 @@
 // between. It never sees the image. What it must know it asks (`ask`), and what is to be done it returns (a `Deed`).
 // `held` and `bus` stay two parameters, here and in `field`: the definitions take two, `Exchange` and `Moved` have two, and one struct
 // of both would be taken apart at every use. An answer stays a number: `Memory.slot_of`, and demand 3 over it, has one for any question.
+// A step is told by a match on the stage, here, in `hear` and in `send`: a record packs a stage by its place, so that none is a closure.
 #![tactic(auto)]
 
 ghost use Rattle.std.specs.Prelude.{◌≡◌};

@@ -1,11 +1,9 @@
 // An image remembered, to see later that nothing but the clock has moved.
-use image::{peek, poke};
+use image::peek;
 
 // Remembers the image.
 pub(crate) fn keep(image: &[u8], store: &mut [u8]) {
-    for i in 0..8832 {
-        poke(store, i, peek(image, i));
-    }
+    image::put_bytes(store, 0, image);
 }
 
 // Whether every byte is as remembered, but for the clock's six, 0200h-0205h.

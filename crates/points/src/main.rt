@@ -61,6 +61,7 @@ fn run(stdout: Stdout, input: &[u8], image: &mut [u8], store: &mut [u8]) {
     let mut right = line::begin(&mut tag, image);
     let mut any = false;
     let mut reads = Reads::Part;
+    // By place: each turn takes the text from there on.
     for i in 0..input.len() {
         let text = &input[i..];
         let c = peek(text, 0);

@@ -18,6 +18,7 @@
 //   Z           the record becomes that of all zeros
 //   S           the image is remembered
 //   K           the image is as remembered but for the clock
+use hexadecimal::nibble;
 use image::peek;
 
 // How a character is read.
@@ -136,7 +137,7 @@ fn slots(text: &[u8], at: usize) -> Option<u16> {
 // The number that the digits at `at` are, eight at most, if none is missing.
 pub(crate) fn number(text: &[u8], at: usize, digits: usize) -> Option<u32> {
     for i in 0..digits {
-        digit(peek(text, at.saturating_add(i)))?;
+        nibble(peek(text, at.saturating_add(i)))?;
     }
     Some(value(text, at, digits))
 }
@@ -145,17 +146,8 @@ pub(crate) fn number(text: &[u8], at: usize, digits: usize) -> Option<u32> {
 pub(crate) fn value(text: &[u8], at: usize, digits: usize) -> u32 {
     let mut value = 0;
     for i in 0..digits {
-        let digit = digit(peek(text, at.saturating_add(i))).unwrap_or(0);
+        let digit = nibble(peek(text, at.saturating_add(i))).unwrap_or(0);
         value = value % 0x10000000 * 16 + u32::from(digit % 16);
     }
     value
-}
-
-// What a digit stands for.
-fn digit(c: u8) -> Option<u8> {
-    match c {
-        b'0'..=b'9' => Some(c - b'0'),
-        b'A'..=b'F' => Some(c - b'A' + 10),
-        _ => None,
-    }
 }

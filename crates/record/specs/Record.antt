@@ -1,8 +1,7 @@
 -- The tag's record: which registration numbers and configuration codes are good, the ranges that a record keeps to, the record of a
 -- new tag, and what a call answers. Assumes nothing.
-use Rattle.std.specs.Prelude.{Bool, true, ◌&&◌, ◌||◌, List, ℕ, ◌%◌, eqb, Ok, Err}
+use Rattle.std.specs.Prelude.{Bool, true, ◌&&◌, ◌||◌, List, ℕ, ◌%◌, eqb, Ok}
 use Rattle.answer.specs.Answer.{Answer}
-use Rattle.answer.specs.declared.Refusal.{Refusal}
 use Rattle.crc.specs.Crc.{good_crc}
 use Rattle.exchange.specs.Exchange as exchange
 use Rattle.mission.specs.Mission as mission
@@ -41,12 +40,8 @@ abbrev pub accepted : Tag → Bool → Answered
 accepted tag line = record { answer = Ok tt; tag = tag; line = line }
 
 -- "A refusal returns bit 1, the record as given .. and no lent byte .. changed"
-abbrev pub refused : Refusal → Tag → Answered
-refused refusal tag = record { answer = Err refusal; tag = tag; line = true }
+abbrev pub refused : Answer → Tag → Answered
+refused answer tag = record { answer = answer; tag = tag; line = true }
 
-abbrev pub refusal : Refusal → Tag → List ℕ → Outcome
-refusal given tag image = record { answered = refused given tag; image = image }
-
--- the same of an answer that may be any: the record and the image as given, and bit 1
-abbrev pub unchanged : Answer → Tag → List ℕ → Outcome
-unchanged answer tag image = record { answered = record { answer = answer; tag = tag; line = true }; image = image }
+abbrev pub refusal : Answer → Tag → List ℕ → Outcome
+refusal answer tag image = record { answered = refused answer tag; image = image }

@@ -71,11 +71,11 @@ pub fn in_range(tag: Tag) -> bool
 }
 
 // A refusal: the record as given, and bit 1.
-pub fn refuse(refusal: Refusal, tag: Tag) -> Answered
-    ensures { result ≡ refused refusal tag }
+pub fn refuse(answer: Result<(), Refusal>, tag: Tag) -> Answered
+    ensures { result ≡ refused answer tag }
 {
     Answered {
-        answer: Err(refusal),
+        answer,
         tag: afresh(tag),
         line: true,
     }

@@ -16,13 +16,13 @@ pub fn new(image: &mut [u8], number: u64, code: u8) -> Answered
     ensures image_after { image.new ≡ (new_tag image.old number code).image }
 {
     if image.len() != 8832 {
-        return record::refuse(Refusal::ImageLength, record::fresh(0, 0));
+        return record::refuse(Err(Refusal::ImageLength), record::fresh(0, 0));
     }
     if !record::good_number(number) {
-        return record::refuse(Refusal::RomNumber, record::fresh(0, 0));
+        return record::refuse(Err(Refusal::RomNumber), record::fresh(0, 0));
     }
     if !record::good_code(code) {
-        return record::refuse(Refusal::Configuration, record::fresh(0, 0));
+        return record::refuse(Err(Refusal::Configuration), record::fresh(0, 0));
     }
     clear_image(image);
     record::accept(record::fresh(number, code), true)
@@ -36,19 +36,19 @@ pub fn event(image: &mut [u8], tag: Tag, code: u8, reading: u16) -> Answered
     ensures image_after { image.new ≡ (step image.old tag code reading).image }
 {
     if image.len() != 8832 {
-        return record::refuse(Refusal::ImageLength, tag);
+        return record::refuse(Err(Refusal::ImageLength), tag);
     }
     if !record::in_range(tag) {
-        return record::refuse(Refusal::RecordRange, tag);
+        return record::refuse(Err(Refusal::RecordRange), tag);
     }
     // The code is document 01's number of the event, and any byte may come: it is no enum.
     match code {
         0 | 1 => event::slot(image, tag, code == 1),
         2 => event::reset(tag),
-        3 if reading > 2047 => record::refuse(Refusal::Reading, tag),
+        3 if reading > 2047 => record::refuse(Err(Refusal::Reading), tag),
         3 => event::tick(image, tag, reading),
         4 => event::short_reset(tag),
-        _ => record::refuse(Refusal::EventCode, tag),
+        _ => record::refuse(Err(Refusal::EventCode), tag),
     }
 }
 

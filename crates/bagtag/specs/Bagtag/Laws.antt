@@ -32,22 +32,22 @@ unfolding new_call
 new_made image lent number code size = rw (eq-eqb (length lent) 80 size)
 
 pub new_image_lem : (image lent : List ℕ) (number code : ℕ) → length lent ≢ 80 → length image ≢ 8832 →
-    new_call image lent number code ≡ not_made Refusal.ImageLength image lent
+    new_call image lent number code ≡ not_made (Err Refusal.ImageLength) image lent
 unfolding new_call
 new_image_lem image lent number code size whole = rw (ne_eqb (length lent) 80 size, ne_eqb (length image) 8832 whole)
 
 pub new_lent : (image lent : List ℕ) (number code : ℕ) → length lent ≢ 80 → length image ≡ 8832 →
-    new_call image lent number code ≡ not_made Refusal.RecordRange image lent
+    new_call image lent number code ≡ not_made (Err Refusal.RecordRange) image lent
 unfolding new_call
 new_lent image lent number code size whole = rw (ne_eqb (length lent) 80 size, eq-eqb (length image) 8832 whole)
 
 pub event_image : (image lent : List ℕ) (code reading : ℕ) → length image ≢ 8832 →
-    event_call image lent code reading ≡ no_event Refusal.ImageLength image lent
+    event_call image lent code reading ≡ no_event (Err Refusal.ImageLength) image lent
 unfolding event_call
 event_image image lent code reading whole = rw (ne_eqb (length image) 8832 whole)
 
 pub event_lent : (image lent : List ℕ) (code reading : ℕ) → length image ≡ 8832 → is_packed lent ≡ false →
-    event_call image lent code reading ≡ no_event Refusal.RecordRange image lent
+    event_call image lent code reading ≡ no_event (Err Refusal.RecordRange) image lent
 unfolding event_call
 event_lent image lent code reading whole bad = rw (eq-eqb (length image) 8832 whole, bad)
 
@@ -57,17 +57,17 @@ unfolding event_call
 event_step image lent code reading whole good = rw (eq-eqb (length image) 8832 whole, good)
 
 pub events_room : (image lent words replies : List ℕ) → length replies < length words →
-    events_call image lent words replies ≡ no_events Refusal.Replies image lent replies
+    events_call image lent words replies ≡ no_events (Err Refusal.Replies) image lent replies
 unfolding events_call
 events_room image lent words replies few = rw (lt-ltb (length replies) (length words) few)
 
 module _ (image lent words replies : List ℕ) (room : length words ≤ length replies) where
-  pub events_image : length image ≢ 8832 → events_call image lent words replies ≡ no_events Refusal.ImageLength image lent replies
+  pub events_image : length image ≢ 8832 → events_call image lent words replies ≡ no_events (Err Refusal.ImageLength) image lent replies
   unfolding events_call
   events_image whole = rw (le-ltb (length replies) (length words) room, ne_eqb (length image) 8832 whole)
 
   pub events_lent : length image ≡ 8832 → is_packed lent ≡ false →
-      events_call image lent words replies ≡ no_events Refusal.RecordRange image lent replies
+      events_call image lent words replies ≡ no_events (Err Refusal.RecordRange) image lent replies
   unfolding events_call
   events_lent whole bad = rw (le-ltb (length replies) (length words) room, eq-eqb (length image) 8832 whole, bad)
 

@@ -1,8 +1,8 @@
 -- What is stored as a clock is read back, and a change that leaves the clock's bytes leaves the clock. Assumes nothing.
-use Rattle.std.specs.Prelude.{◌≡◌, refl, List, [], ◌∷◌, ℕ, zero, suc, ◌+◌, ◌≤◌, ◌<◌, T, length, get_or, set, drop}
-use Rattle.std.proofs.Common.{◌∙◌, ap, sym, suc-add, add-suc, not-suc-le-zero, add-zero, add-one, arith, length-set, get_or-set_same, get_or-set_other}
+use Rattle.std.specs.Prelude.{◌≡◌, refl, List, [], ◌∷◌, ℕ, zero, suc, ◌+◌, ◌≤◌, ◌<◌, T, length, get_or, set}
+use Rattle.std.proofs.Common.{◌∙◌, ap, sym, suc-add, add-suc, not-suc-le-zero, add-zero, arith, length-set, get_or-set_same, get_or-set_other}
 use Rattle.std.specs.Int.Bits.{bit_and}
-use Rattle.std.proofs.Math.Seq.{drop-cons}
+use Rattle.std.proofs.lemmas.List.Edits.{sets}
 use Rattle.calendar.specs.declared.Clock.{Clock}
 use Rattle.image.specs.Fields.{word_at}
 use Rattle.image.specs.Keeps.{Run, free, free_part, Keeps, keeps_same, keeps_then, keeps_within}
@@ -39,13 +39,11 @@ byte_put_bytes image at (suc i) (b ∷ bs) h fits =
     rw (add-suc at i, ← suc-add at i)
     (byte_put_bytes (set image at b) (suc at) i bs (omega arith) (rw (length-set image at b) (omega arith)))
 
--- one stored, the others are stored from the next place on
-pub put_bytes_next : (image : List ℕ) (at i : ℕ) (bs : List ℕ) → i < length bs
-    → put_bytes (set image (at + i) (get_or bs i 0)) (at + (i + 1)) (drop (i + 1) bs) ≡ put_bytes image (at + i) (drop i bs)
+-- bytes stored one after the other are a run of stores
+pub put_is_sets : (image : List ℕ) (at : ℕ) (bytes : List ℕ) → sets image at bytes ≡ put_bytes image at bytes
 unfolding put_bytes
-put_bytes_next image at i bs h =
-    let up : at + (i + 1) ≡ suc (at + i) = omega arith in
-    rw (drop-cons bs i 0 h, put_bytes, up, add-one i)
+put_is_sets image at [] = refl
+put_is_sets image at (b ∷ bytes) = put_is_sets (set image at b) (suc at) bytes
 
 -- ---- a clock in the image
 

@@ -1,5 +1,5 @@
 -- The library's calls are the tag's and the dock's, through a record's bytes. Assumes nothing.
-use Rattle.std.specs.Prelude.{Bool, ◌&&◌, List, ◌∷◌, ◌++◌, map, ◌≢◌, ◌≡◌, ℤ, pos, negsuc, get_or, replicate, take, if◌then◌else◌}
+use Rattle.std.specs.Prelude.{Bool, ◌&&◌, List, ◌∷◌, ◌++◌, map, ◌≢◌, ◌≡◌, ℤ, pos, negsuc, get_or, replicate, take, if◌then◌else◌, Err}
 use Rattle.std.proofs.Math.Bool.{true, false, not}
 use Rattle.std.proofs.Common.{append_assoc, sym, subst, ◌∙◌, arith}
 use Rattle.std.proofs.Math.Logic.{dite}
@@ -250,8 +250,8 @@ unfolding event_call
 line_bit_lem image lent code reading = by (eqb (length image) 8832) (is_packed lent)
   where
     by : (whole good : Bool) →
-        (if not whole then no_event Refusal.ImageLength image lent
-        else if not good then no_event Refusal.RecordRange image lent
+        (if not whole then no_event (Err Refusal.ImageLength) image lent
+        else if not good then no_event (Err Refusal.RecordRange) image lent
         else stepped (step image (unpacked lent) code reading)).line < 2
     by false good = omega arith
     by true false = omega arith

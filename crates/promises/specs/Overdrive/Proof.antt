@@ -1,8 +1,9 @@
 -- Overdrive: what a short reset leaves; which slots set the speed, over any events; and two tags that differ in it alone go on alike.
 -- Assumes nothing.
-use Rattle.std.specs.Prelude.{◌≡◌, refl, Bool, true, false, not, ◌||◌, List, [], ◌∷◌, ◌≢◌, ℕ, eqb, ltb, length, Ok}
+use Rattle.std.specs.Prelude.{◌≡◌, refl, Bool, true, false, not, ◌||◌, List, [], ◌∷◌, ◌≢◌, ℕ, eqb, ltb, length, Ok, Err}
 use Rattle.std.proofs.Common.{sym, ap, subst, ◌∙◌, true≢false, append_assoc, inl, inr, ⊎_elim}
 use Rattle.std.proofs.Math.Bool.{or-true, or-false}
+use Rattle.answer.specs.Answer.{Answer}
 use Rattle.answer.specs.declared.Refusal.{Refusal}
 use Rattle.bits.specs.Bits.{bits_of}
 use Rattle.bits.specs.Choose.{choices}
@@ -193,9 +194,9 @@ slot_goes s speed bit =
     )
 
 -- a refusal, a tick and a long reset
-refused_goes : (s : State) (speed : Bool) (given : Refusal) →
-    Goes (refusal given s.tag s.image) (refusal given (with_speed speed s).tag s.image)
-refused_goes s speed given = (refl, but_with s (with_speed speed s) speed refl)
+refused_goes : (s : State) (speed : Bool) (answer : Answer) →
+    Goes (refusal answer s.tag s.image) (refusal answer (with_speed speed s).tag s.image)
+refused_goes s speed answer = (refl, but_with s (with_speed speed s) speed refl)
 
 tick_goes : (s : State) (speed : Bool) (reading : ℕ) →
     Goes (tick_tag s.image s.tag reading) (tick_tag s.image (with_speed speed s).tag reading)
@@ -220,14 +221,14 @@ unfolding event_of reset_tag NoShort
 event_goes s speed (Event.slot true) none = slot_goes s speed true
 event_goes s speed (Event.slot false) none = slot_goes s speed false
 event_goes s speed Event.reset none = (refl, reset_but s speed)
-event_goes s speed (Event.tick reading) none = choices Goes (ltb 2047 reading) (refused_goes s speed Refusal.Reading) (tick_goes s speed reading)
+event_goes s speed (Event.tick reading) none = choices Goes (ltb 2047 reading) (refused_goes s speed (Err Refusal.Reading)) (tick_goes s speed reading)
 event_goes s speed Event.short none = absurd none
 
 step_goes : (s : State) (speed : Bool) (e : Event) → NoShort (e ∷ []) → Goes (happens s e) (happens (with_speed speed s) e)
 unfolding step tag_in_range
 step_goes s speed e none =
-    choices Goes (not (eqb (length s.image) 8832)) (refused_goes s speed Refusal.ImageLength)
-    (choices Goes (not (tag_in_range s.tag)) (refused_goes s speed Refusal.RecordRange) (event_goes s speed e none))
+    choices Goes (not (eqb (length s.image) 8832)) (refused_goes s speed (Err Refusal.ImageLength))
+    (choices Goes (not (tag_in_range s.tag)) (refused_goes s speed (Err Refusal.RecordRange)) (event_goes s speed e none))
 
 -- of events with no short reset among them the first is none, and the others have none
 no_short : (e : Event) (events : List Event) → NoShort (e ∷ events) → NoShort (e ∷ []) × NoShort events

@@ -1,6 +1,6 @@
 -- What lifts from one event to a run: an invariant, and a relation between two runs side by side; and the two that every reached
 -- state has. Assumes nothing.
-use Rattle.std.specs.Prelude.{◌≡◌, Bool, List, [], ◌∷◌, ◌++◌, ℕ, suc, ◌≤◌, ◌<◌, length, Ok}
+use Rattle.std.specs.Prelude.{◌≡◌, Bool, List, [], ◌∷◌, ◌++◌, ℕ, suc, ◌≤◌, ◌<◌, length, Ok, Err}
 use Rattle.std.proofs.Math.Path.{refl}
 use Rattle.std.proofs.Common.{ap, ◌∙◌, arith, lt-ltb, le-ltb}
 use Rattle.std.proofs.Math.Bool.{true, false}
@@ -167,7 +167,7 @@ module _ {s : State} (sound : Sound s) where
       step_taken s.image s.tag 3 reading sound.size sound.ranges ∙ rw (le-ltb 2047 reading small)
 
   -- a tick with a reading above 2047 is refused
-  pub tick_refused : (reading : ℕ) → 2047 < reading → happens s (Event.tick reading) ≡ refusal Refusal.Reading s.tag s.image
+  pub tick_refused : (reading : ℕ) → 2047 < reading → happens s (Event.tick reading) ≡ refusal (Err Refusal.Reading) s.tag s.image
   unfolding event_of
   tick_refused reading high =
       step_taken s.image s.tag 3 reading sound.size sound.ranges ∙ rw (lt-ltb 2047 reading high)

@@ -9,7 +9,7 @@ use Rattle.answer.specs.declared.Refusal.{Refusal}
 use Rattle.event.specs.Event.{slotted, reset_tag, short_tag, tick_tag}
 use Rattle.event.specs.Event.Laws.{length_slotted, length_tick, slotted_in_range, reset_in_range, short_in_range, tick_in_range}
 use Rattle.record.specs.declared.Tag.{Tag}
-use Rattle.record.specs.Record.{Outcome, good_number, good_code, tag_in_range, fresh_tag, accepted, refusal, unchanged}
+use Rattle.record.specs.Record.{Outcome, good_number, good_code, tag_in_range, fresh_tag, accepted, refusal}
 use Rattle.tag.specs.Tag.{new_image, new_tag, event_of, step}
 
 -- ---- which answer
@@ -34,8 +34,8 @@ event_cases : (P : Outcome → Answer → Type 0) (image : List ℕ) (tag : Tag)
     P (reset_tag image tag) (Ok tt) →
     P (short_tag image tag) (Ok tt) →
     (reading ≤ 2047 → P (tick_tag image tag reading) (Ok tt)) →
-    P (refusal Refusal.EventCode tag image) (Err Refusal.EventCode) →
-    P (refusal Refusal.Reading tag image) (Err Refusal.Reading) →
+    P (refusal (Err Refusal.EventCode) tag image) (Err Refusal.EventCode) →
+    P (refusal (Err Refusal.Reading) tag image) (Err Refusal.Reading) →
     P (event_of image tag code reading) (event_answer code reading)
 unfolding event_of event_answer
 event_cases P image tag code reading slots reset short tick above over =
@@ -47,8 +47,8 @@ event_cases P image tag code reading slots reset short tick above over =
         else if one then slotted image tag true
         else if two then reset_tag image tag
         else if four then short_tag image tag
-        else if not three then refusal Refusal.EventCode tag image
-        else if high then refusal Refusal.Reading tag image
+        else if not three then refusal (Err Refusal.EventCode) tag image
+        else if high then refusal (Err Refusal.Reading) tag image
         else tick_tag image tag reading)
         (if ltb 4 code then Err Refusal.EventCode else if three && high then Err Refusal.Reading else Ok tt)
     by true one two four three high p q r f s t = rw (← s, eqb-true code 0 p) (slots false)
@@ -68,14 +68,14 @@ step_cases : (P : Outcome → Answer → Type 0) (image : List ℕ) (tag : Tag) 
     P (reset_tag image tag) (Ok tt) →
     P (short_tag image tag) (Ok tt) →
     (reading ≤ 2047 → P (tick_tag image tag reading) (Ok tt)) →
-    ((given : Refusal) → P (refusal given tag image) (Err given)) →
+    ((given : Refusal) → P (refusal (Err given) tag image) (Err given)) →
     P (step image tag code reading) (step_answer image tag code reading)
 unfolding step step_answer
 step_cases P image tag code reading slots reset short tick refused = by (eqb (length image) 8832) (tag_in_range tag)
   where
     by : (whole in_range : Bool) →
-        P (if not whole then refusal Refusal.ImageLength tag image
-        else if not in_range then refusal Refusal.RecordRange tag image
+        P (if not whole then refusal (Err Refusal.ImageLength) tag image
+        else if not in_range then refusal (Err Refusal.RecordRange) tag image
         else event_of image tag code reading)
         (if not whole then Err Refusal.ImageLength else if not in_range then Err Refusal.RecordRange else event_answer code reading)
     by false in_range = refused Refusal.ImageLength
@@ -118,13 +118,13 @@ unfolding event_of
 event_tick image tag code reading e small = simp (e, le-ltb 2047 reading small)
 
 pub event_reading : (image : List ℕ) (tag : Tag) (code reading : ℕ) → code ≡ 3 → 2047 < reading →
-    event_of image tag code reading ≡ refusal Refusal.Reading tag image
+    event_of image tag code reading ≡ refusal (Err Refusal.Reading) tag image
 unfolding event_of
 event_reading image tag code reading e large = simp (e, lt-ltb 2047 reading large)
 
 -- and every code that is none
 pub event_other : (image : List ℕ) (tag : Tag) (code reading : ℕ) → 2 ≤ code → code ≢ 2 → code ≢ 3 → code ≢ 4 →
-    event_of image tag code reading ≡ refusal Refusal.EventCode tag image
+    event_of image tag code reading ≡ refusal (Err Refusal.EventCode) tag image
 unfolding event_of
 event_other image tag code reading h no-reset no-tick no_short =
     simp (
@@ -145,10 +145,10 @@ answer_taken image tag code reading whole in_range =
 
 -- "A refusal returns bit 1, the record as given .. and no lent byte .. changed"
 pub step_refused : (image : List ℕ) (tag : Tag) (code reading : ℕ) → (step image tag code reading).answered.answer ≢ Ok tt →
-    step image tag code reading ≡ unchanged (step image tag code reading).answered.answer tag image
+    step image tag code reading ≡ refusal (step image tag code reading).answered.answer tag image
 unfolding slotted reset_tag short_tag tick_tag
 step_refused image tag code reading =
-    step_cases (λ o a. o.answered.answer ≢ Ok tt → o ≡ unchanged o.answered.answer tag image) image tag code reading
+    step_cases (λ o a. o.answered.answer ≢ Ok tt → o ≡ refusal o.answered.answer tag image) image tag code reading
     (λ bit refused. absurd (refused refl))
     (λ refused. absurd (refused refl))
     (λ refused. absurd (refused refl))
@@ -206,16 +206,16 @@ abbrev pub new_outcome : ℕ → ℕ → Outcome
 new_outcome number code = record { answered = accepted (fresh_tag number code) true; image = new_image 8832 }
 
 new_cases : (P : Outcome → Answer → Type 0) (image : List ℕ) (number code : ℕ) →
-    ((given : Refusal) → P (refusal given (fresh_tag 0 0) image) (Err given)) →
+    ((given : Refusal) → P (refusal (Err given) (fresh_tag 0 0) image) (Err given)) →
     (length image ≡ 8832 → good_number number ≡ true → good_code code ≡ true → P (new_outcome number code) (Ok tt)) →
     P (new_tag image number code) (new_answer image number code)
 unfolding new_tag new_answer
 new_cases P image number code refused made = by (eqb (length image) 8832) (good_number number) (good_code code) refl refl refl
   where
     by : (whole good known : Bool) → eqb (length image) 8832 ≡ whole → good_number number ≡ good → good_code code ≡ known →
-        P (if not whole then refusal Refusal.ImageLength (fresh_tag 0 0) image
-        else if not good then refusal Refusal.RomNumber (fresh_tag 0 0) image
-        else if not known then refusal Refusal.Configuration (fresh_tag 0 0) image
+        P (if not whole then refusal (Err Refusal.ImageLength) (fresh_tag 0 0) image
+        else if not good then refusal (Err Refusal.RomNumber) (fresh_tag 0 0) image
+        else if not known then refusal (Err Refusal.Configuration) (fresh_tag 0 0) image
         else new_outcome number code)
         (if not whole then Err Refusal.ImageLength else if not good then Err Refusal.RomNumber else if not known then Err Refusal.Configuration else Ok tt)
     by false good known p q r = refused Refusal.ImageLength
@@ -229,9 +229,9 @@ new_answer_lem image number code =
 
 -- "(a refused new tag: the record of all zeros ..)"
 pub new_refused : (image : List ℕ) (number code : ℕ) → (new_tag image number code).answered.answer ≢ Ok tt →
-    new_tag image number code ≡ unchanged (new_tag image number code).answered.answer (fresh_tag 0 0) image
+    new_tag image number code ≡ refusal (new_tag image number code).answered.answer (fresh_tag 0 0) image
 new_refused image number code =
-    new_cases (λ o a. o.answered.answer ≢ Ok tt → o ≡ unchanged o.answered.answer (fresh_tag 0 0) image) image number code
+    new_cases (λ o a. o.answered.answer ≢ Ok tt → o ≡ refusal o.answered.answer (fresh_tag 0 0) image) image number code
     (λ given refused. refl) (λ whole good known refused. absurd (refused refl))
 
 -- one that is accepted had good image, number and code ..

@@ -17,7 +17,7 @@ use Rattle.exchange.specs.declared.Slotted.{Slotted}
 use Rattle.exchange.specs.Exchange.{slot_of}
 use Rattle.memory.specs.Memory as memory
 use Rattle.record.specs.declared.Tag.{Tag}
-use Rattle.record.specs.Record.{Outcome, good_number, good_code, unchanged}
+use Rattle.record.specs.Record.{Outcome, good_number, good_code, refusal}
 use Rattle.select.specs.declared.Choosing.{Choosing}
 use Rattle.select.specs.declared.Mode.{Mode}
 use Rattle.select.specs.Select as select
@@ -88,7 +88,7 @@ zeros_number image code reading = by (eqb (length image) 8832)
 -- ---- what is left
 
 -- what a refusal gives, one by one
-refusal_gives : {o : Outcome} {answer : Answer} {image : List ℕ} {tag : Tag} → o ≡ unchanged answer tag image →
+refusal_gives : {o : Outcome} {answer : Answer} {image : List ℕ} {tag : Tag} → o ≡ refusal answer tag image →
     (o.answered.line ≡ true) × (o.answered.tag ≡ tag) × (o.image ≡ image)
 refusal_gives p = (ap (λ (o : Outcome). o.answered.line) p, ap (λ (o : Outcome). o.answered.tag) p, ap (λ (o : Outcome). o.image) p)
 
