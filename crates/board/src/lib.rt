@@ -232,7 +232,7 @@ fn is_high(code: u8, reading: u16) -> bool
     code == 3 && 2047 < reading
 }
 
-// A slot or a reset of one tag.
+// A slot or a reset of one tag. By the code, as `tag::event`: it judges none, since the line is judged whole.
 #[tactic(auto, unfolding(crate::specs::Board::Laws::heard, event::specs::Event::reset_tag, event::specs::Event::short_tag))]
 fn hear(image: &mut [u8], tag: Tag, code: u8) -> Answered
     ensures value { result ≡ (heard image.old tag code).answered }

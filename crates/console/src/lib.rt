@@ -28,7 +28,8 @@ pub trait Plays<const N: usize> {
     ghost sized: { (2 ≤ N) × (N ≤ 65536) };
 }
 
-// How a session went: how many bytes it prints, and the refusal that ended it, if one did.
+// How a session went: how many bytes it prints, and the refusal that ended it, if one did. What is printed counts at a refusal too, and so
+// stands beside the answer.
 #[derive(Clone, Copy)]
 struct Played {
     printed: usize,
@@ -96,7 +97,8 @@ fn play_groups<const N: usize, P: Plays<N>>(
 }
 
 // Moves the bytes behind the whole groups of the input's first `held` bytes, or of all if there are fewer, to its start, and
-// returns how many they are. Of groups of no bytes none is ever whole.
+// returns how many they are. Of groups of no bytes none is ever whole. `held` may be more than there are bytes, of which the clauses speak: so
+// it is no slice.
 pub fn move_begun(input: &mut [u8], held: usize, size: usize) -> usize
     ensures value { result ≡ length (begun_in size (take held input.old)) }
     ensures input_after { input.new ≡ sets input.old 0 (begun_in size (take held input.old)) }

@@ -40,6 +40,7 @@ pub(crate) fn rate(memory: &[u8]) -> u16
     u16::from_le_bytes([dump::byte_at(memory, 0x0206), dump::byte_at(memory, 0x0207)])
 }
 
+// Each by the sheet's name, which says more than a run of six.
 #[tactic(auto, unfolding(dump::specs::Lines::bytes_from))]
 pub(crate) fn stamp(memory: &[u8]) -> [u8; 6]
     ensures { result ≡ stamp (memory_at memory.now) }

@@ -120,7 +120,7 @@ pub fn region_of(address: u16) -> Region
 }
 
 // The number in `count` bytes from `at` on, low byte first; of more than eight, the first eight.
-// Two numbers and no struct: most calls are of a record's or a head's bytes, where `Word { at: 24, count: 8 }` is no plainer.
+// Two numbers and no struct: half of the calls are of a record's or a head's bytes, where `Word { at: 24, count: 8 }` is no plainer.
 #[tactic(auto, using(crate::specs::Fields::Laws::word_past, crate::specs::Fields::Laws::word_next, crate::specs::Fields::Laws::word_none))]
 pub fn word(image: &[u8], at: usize, count: usize) -> u64
     ensures { result ≡ word_at image.now at (min count 8) }

@@ -95,7 +95,7 @@ fn put_words(lent: &mut [u8], tag: Tag)
     put(lent, 40, &field.to_le_bytes());
 }
 
-// Stores bytes from a place on; past the end, nothing.
+// Stores bytes from a place on; past the end, nothing. Beside `image::put_bytes` it says what the type does, which `Fits` rests on.
 pub fn put(lent: &mut [u8], at: usize, bytes: &[u8])
     ensures lent_after { lent.new ≡ sets lent.old at bytes.now }
     ensures bytes { Bytes bytes.now }

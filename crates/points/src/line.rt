@@ -1,4 +1,4 @@
-// The master's side of the line, over a tag.
+// The master's side of the line, over a tag. The tag and its image go side by side, as every call of `tag` takes them.
 use crate::session::Calls;
 use crate::{kept, lists, session};
 use image::peek;

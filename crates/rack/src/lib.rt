@@ -71,7 +71,8 @@ fn whole(size: usize, count: u8) -> usize
     board::places(count).min(usize::from(few / 80))
 }
 
-// Packs a line's records into the first bytes lent; bytes past them stay, and what a shorter slice has no room for is left out.
+// Packs a line's records into the first bytes lent; bytes past them stay, and what a shorter slice has no room for is left out. By place,
+// which is the record's and, times 80, its bytes'.
 pub fn pack(records: &mut [u8], board: Board)
     ensures records_after { records.new ≡ sets records.old 0 (rack_of board) }
     ensures all_fit { AllFit board }
