@@ -21,6 +21,7 @@ pub struct Batch {
 // A list of events: word 0 a slot with the line held low, 1 a slot with the line released, 2 a reset, 4 a short reset, 4096 plus a
 // reading up to 2047 a tick. Each leaves its line bit, 0 or 1, in its reply byte. Refused with 17, 3 or 6, in that order, and nothing
 // is done. Any other word ends the list with 1; the words before it are done, and the reply bytes from it on stay as they were.
+// A reply goes by its word's place: more of them may be lent than there are words.
 #[tactic(auto, unfolding(crate::specs::Batch::listed))]
 pub fn events(image: &mut [u8], tag: Tag, words: &[u16], replies: &mut [u8]) -> Batch
     ensures value { result ≡ (listed image.old tag words.now replies.old).batch }

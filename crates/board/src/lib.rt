@@ -2,7 +2,8 @@
 // to all of them, and the line bit is the AND of theirs; a tick goes to the tag at its place. All is judged before anything is done: so a
 // refusal changes nothing, wherever the fault stands.
 //
-// Numbers and codes are two slices, as C lends them (include/bagtag.h); code, place and reading are document 01's numbers, and any may come.
+// Numbers and codes are two slices, as C lends them (include/bagtag.h); code, place and reading are document 01's numbers, one by one as a group
+// of bytes or C has them, and any may come.
 // What is written is written by place: a record, its number and its part of the block have the same, and slices side by side would say less.
 #![tactic(auto)]
 

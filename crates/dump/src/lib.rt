@@ -73,7 +73,7 @@ fn crc_right(bytes: [u8; 36]) -> bool
     bytes[34] == crc::sent_low(crc) && bytes[35] == crc::sent_high(crc)
 }
 
-// The data bytes of a line.
+// The data bytes of a line. Stored as `read` stores them: a pattern for the middle of an array gets no proof.
 #[tactic(auto, using(bits::specs::Stores::sets_whole), unfolding(crate::specs::Lines::data_in))]
 fn data_in(bytes: [u8; 36]) -> [u8; DATA]
     ensures { result ≡ data_in bytes }

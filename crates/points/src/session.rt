@@ -134,7 +134,7 @@ fn slots(text: &[u8], at: usize) -> Option<u16> {
     Some(8 * (bytes % 0x100) as u16)
 }
 
-// The number that the digits at `at` are, eight at most, if none is missing.
+// The number that the digits at `at` are, eight at most, if none is missing. By place, as `peek` takes one: the text may end before.
 pub(crate) fn number(text: &[u8], at: usize, digits: usize) -> Option<u32> {
     for i in 0..digits {
         nibble(peek(text, at.saturating_add(i)))?;
