@@ -5,7 +5,7 @@
  * below, returns, and touches no memory but what is lent to it. It keeps nothing between calls, has no globals, allocates nothing
  * and needs of a C library only memcpy and memset (on 32-bit Arm by the names of its run-time ABI, which chip/build lists). It can
  * be called from an interrupt, and for several tags at once, as long as no two calls that run at the same time are lent the same
- * bytes. A call of bagtag_list takes some 33,000 bytes of stack, one to a line of several tags 3,800, every other about a thousand;
+ * bytes. A call of bagtag_list takes some 25,000 bytes of stack, one to a line of several tags 3,800, every other about a thousand;
  * chip/size tells it for each chip.
  *
  * WHO OWNS WHICH MEMORY. All memory is the caller's. A call uses what it is lent until it returns, and keeps no pointer. A pointer
