@@ -46,10 +46,15 @@ pub fn nibble(character: u8) -> Option<u8>
 }
 
 // Writes the last `digits` digits of a number from `at` on, high digit first; what falls past the end is left out.
+#[tactic(auto, using(crate::specs::Hex::Stores::sets_past))]
 pub fn put_hex(out: &mut [u8], at: usize, value: u64, digits: usize)
     ensures { out.new ≡ sets out.old at (hex_of digits value) }
 {
-    let room = out.len().saturating_sub(at);
+    // Past the end there is nothing to write, however many digits are asked for.
+    if out.len() <= at {
+        return;
+    }
+    let room = out.len() - at;
     let mut rest = value;
     for left in (0..digits).rev() {
         if left < room {
