@@ -5,7 +5,7 @@
 ghost use Rattle.std.specs.Prelude.{true, not, [], ◌≡◌, ◌≤◌, ◌+◌, ◌%◌, ℕ, List, is_ok, eqb, length, take};
 ghost use Rattle.std.proofs.lemmas.List.Edits.{sets};
 ghost use Rattle.answer.specs.Answer.{answer_number};
-ghost use Rattle.console.specs.Console.{begun_in, groups_in, Behind, Reply, Answers, Leaves, played, reading_of, reply_text};
+ghost use Rattle.console.specs.Console.{begun_in, groups_in, Behind, Reply, Session, Answers, Leaves, played, reading_of, reply_text};
 
 use answer::Refusal;
 use std::io::{Print, Read, Stdin, Stdout};
@@ -18,11 +18,17 @@ pub trait Plays<const N: usize> {
     // What an event of a group answers and leaves.
     ghost reply: { List ℕ → Self.Record → List ℕ → Reply Self.Record };
 
+    // What the events of an input leave, in the program's own words.
+    ghost session: { List ℕ → Self.Record → List ℕ → Session Self.Record };
+
     // The line bit, or why the event is refused.
     fn event(back: &mut Self::Record, lent: &mut [u8], group: &[u8; N]) -> Result<bool, Refusal>
         ensures answer { Answers (reply lent.old back.old group.now) result }
         ensures back_after { back.new ≡ (reply lent.old back.old group.now).back }
         ensures lent_after { lent.new ≡ (reply lent.old back.old group.now).lent };
+
+    // They are of N bytes each, one after the other, and a short last group is dropped.
+    ghost grouped: { (lent : List ℕ) (back : Self.Record) (input : List ℕ) → session lent back input ≡ played reply lent back (groups_in N input) };
 
     // A group is no shorter than a line bit's text, and no longer than what is read at once.
     ghost sized: { (2 ≤ N) × (N ≤ 65536) };
@@ -69,11 +75,11 @@ fn play_groups<const N: usize, P: Plays<N>>(
     input: &[u8],
     out: &mut [u8],
 ) -> Played
-    ensures printed { result.printed ≡ length (played P.reply lent.old back.old (groups_in N input.now)).text }
-    ensures accepted { is_ok result.answer ≡ (played P.reply lent.old back.old (groups_in N input.now)).accepted }
-    ensures back_after { back.new ≡ (played P.reply lent.old back.old (groups_in N input.now)).back }
-    ensures lent_after { lent.new ≡ (played P.reply lent.old back.old (groups_in N input.now)).lent }
-    ensures out_after { out.new ≡ sets out.old 0 (played P.reply lent.old back.old (groups_in N input.now)).text }
+    ensures printed { result.printed ≡ length (P.session lent.old back.old input.now).text }
+    ensures accepted { is_ok result.answer ≡ (P.session lent.old back.old input.now).accepted }
+    ensures back_after { back.new ≡ (P.session lent.old back.old input.now).back }
+    ensures lent_after { lent.new ≡ (P.session lent.old back.old input.now).lent }
+    ensures out_after { out.new ≡ sets out.old 0 (P.session lent.old back.old input.now).text }
 {
     let mut printed = 0;
     let mut rest = input;

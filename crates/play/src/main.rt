@@ -2,8 +2,8 @@
 // Standard output: 0 or 1 and a line feed for each event; for a refusal R, its number in two digits and a line feed, and the end.
 #![tactic(auto)]
 
-ghost use Rattle.std.proofs.Common.{rules};
-ghost use Rattle.play.specs.Play.{reply_of};
+ghost use Rattle.std.proofs.Common.{rules, refl};
+ghost use Rattle.play.specs.Play.{reply_of, session_of};
 
 use answer::Refusal;
 use console::Plays;
@@ -16,6 +16,10 @@ impl Plays<3> for Alone {
     type Record = Tag;
 
     ghost reply = { reply_of };
+
+    ghost session = { session_of };
+
+    ghost grouped = { λ lent back input. refl };
 
     ghost sized = { (Prim.search rules, Prim.search rules) };
 

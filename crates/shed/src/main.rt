@@ -2,8 +2,9 @@
 // each tag eight ROM bytes and the code; then four bytes an event. Standard output is as that of `play`.
 #![tactic(auto)]
 
-ghost use Rattle.std.proofs.Common.{rules};
-ghost use Rattle.shed.specs.Shed.{reply_of};
+ghost use Rattle.std.specs.Prelude.{◌≡◌, min, length};
+ghost use Rattle.std.proofs.Common.{rules, refl};
+ghost use Rattle.shed.specs.Shed.{reply_of, session_of};
 
 use answer::Refusal;
 use board::Board;
@@ -17,6 +18,10 @@ impl Plays<4> for Shed {
     type Record = Board;
 
     ghost reply = { reply_of };
+
+    ghost session = { session_of };
+
+    ghost grouped = { λ lent back input. refl };
 
     ghost sized = { (Prim.search rules, Prim.search rules) };
 
@@ -36,10 +41,9 @@ fn main(rt: HostRuntime) {
     let mut count = [0u8; 1];
     console::read_full(rt.stdin(), &mut count);
     // Of more than seven tags eight heads are read: such a line is refused for its count alone.
-    let heads = usize::from(count[0]).min(8);
     let mut numbers = [0u64; 8];
     let mut codes = [0u8; 8];
-    read_heads(rt.stdin(), &mut numbers[..heads], &mut codes[..heads]);
+    let heads = read_heads(rt.stdin(), count[0], &mut numbers, &mut codes);
     let mut block = [0u8; 7 * 8832];
     let lent = heads.min(7) * 8832;
     begin(
@@ -51,14 +55,21 @@ fn main(rt: HostRuntime) {
     );
 }
 
-// Reads a head for each place: eight ROM bytes and the code. They stand in two slices, as `board::new` takes them.
-fn read_heads(stdin: Stdin, numbers: &mut [u64], codes: &mut [u8]) {
-    for (number, code) in numbers.iter_mut().zip(codes.iter_mut()) {
+// Reads the heads of so many tags, eight ROM bytes and the code each, as far as there are places for their numbers, and returns how many it
+// has read. Numbers and codes stand in two slices, as `board::new` takes them.
+fn read_heads(stdin: Stdin, count: u8, numbers: &mut [u64], codes: &mut [u8]) -> usize
+    ensures { result ≡ min count (length numbers.old) }
+{
+    let places = numbers.len().min(usize::from(count));
+    let mut heads = 0;
+    for number in numbers[..places].iter_mut() {
         let mut head = [0u8; 9];
         console::read_full(stdin, &mut head);
         *number = image::word(&head, 0, 8);
-        *code = head[8];
+        image::poke(codes, heads, head[8]);
+        heads += 1;
     }
+    heads
 }
 
 // A new line, and the events that come for it.

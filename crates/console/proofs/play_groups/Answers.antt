@@ -58,6 +58,7 @@ returns-in-Err g c =
       out_after = rw c.from.ensures at c.put_answer-printed-in-Err.ensures.out_after;
       value = rw c.from.ensures at c.put_answer-printed-in-Err.ensures.value;
     } in
+    rw (g.met.P.Plays.grouped c.args.lent.now c.args.back.now c.args.input.now)
     record {
       printed = ap (λ (p : Put g.row.P-Record.Denot). p.printed) all;
       accepted = ap (λ (p : Put g.row.P-Record.Denot). p.accepted) all;
@@ -70,6 +71,7 @@ pub returns : goal.returns
 returns g c =
     let all =
     playing_all g.P.Plays.reply g.row.N c.args.lent.now c.args.back.now c.args.input.now c.args.out.now c.loop-group.invariant c.in_default.ensures.cases in
+    rw (g.met.P.Plays.grouped c.args.lent.now c.args.back.now c.args.input.now)
     record {
       printed = ap (λ (p : Put g.row.P-Record.Denot). p.printed) all;
       accepted = ap (λ (p : Put g.row.P-Record.Denot). p.accepted) all;
