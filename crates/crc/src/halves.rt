@@ -1,13 +1,18 @@
-// Eight tables of sixteen for CRC-16 by half-bytes: what a half-byte in the register becomes after 4, 8 .. 32 zeros.
-ghost use Rattle.std.specs.Prelude.{◌≡◌, min};
+// Eight tables of sixteen for CRC-16 by half-bytes: what a half-byte in the register becomes after 4, 8 .. 32 zeros. Those after 4 and 8
+// lie by themselves: the tag has bytes one by one, and needs no others.
+ghost use Rattle.std.specs.Prelude.{◌≡◌, suc, min};
 ghost use Rattle.crc.specs.Crc.Halves.{byte_tabled};
 
 #[rattlefmt::skip]
-static TABLES: [[u16; 16]; 8] = [
+static NEAR: [[u16; 16]; 2] = [
     [0x0000, 0xCC01, 0xD801, 0x1400, 0xF001, 0x3C00, 0x2800, 0xE401,
      0xA001, 0x6C00, 0x7800, 0xB401, 0x5000, 0x9C01, 0x8801, 0x4400],
     [0x0000, 0xC0C1, 0xC181, 0x0140, 0xC301, 0x03C0, 0x0280, 0xC241,
      0xC601, 0x06C0, 0x0780, 0xC741, 0x0500, 0xC5C1, 0xC481, 0x0440],
+];
+
+#[rattlefmt::skip]
+static FAR: [[u16; 16]; 6] = [
     [0x0000, 0xC00D, 0xC019, 0x0014, 0xC031, 0x003C, 0x0028, 0xC025,
      0xC061, 0x006C, 0x0078, 0xC075, 0x0050, 0xC05D, 0xC049, 0x0044],
     [0x0000, 0x9001, 0x6001, 0xF000, 0xC002, 0x5003, 0xA003, 0x3002,
@@ -22,11 +27,17 @@ static TABLES: [[u16; 16]; 8] = [
      0x6002, 0x9C03, 0xD803, 0x2402, 0x5003, 0xAC02, 0xE802, 0x1403],
 ];
 
-// What a byte in the register becomes after 4 `at` + 8 zeros, for an `at` up to 6. Its low half has four of them more than its high half to
-// go through.
-pub(crate) fn byte_tabled(at: usize, byte: u8) -> u16
-    ensures { result ≡ byte_tabled (min at 6) byte }
+// What a byte in the register becomes after 8 zeros. Its low half has four of them more than its high half to go through.
+pub(crate) fn near(byte: u8) -> u16
+    ensures { result ≡ byte_tabled 0 byte }
 {
-    let at = at.min(6);
-    TABLES[at + 1][(byte % 16) as usize] ^ TABLES[at][(byte / 16) as usize]
+    NEAR[1][(byte % 16) as usize] ^ NEAR[0][(byte / 16) as usize]
+}
+
+// What it becomes after 4 `at` + 16 zeros, for an `at` up to 4.
+pub(crate) fn far(at: usize, byte: u8) -> u16
+    ensures { result ≡ byte_tabled (suc (suc (min at 4))) byte }
+{
+    let at = at.min(4);
+    FAR[at + 1][(byte % 16) as usize] ^ FAR[at][(byte / 16) as usize]
 }

@@ -51,7 +51,7 @@ pub fn crc16_byte(crc: u16, byte: u8) -> u16
     ensures { result ≡ crc16_byte crc byte }
 {
     let [low, high] = crc.to_le_bytes();
-    halves::byte_tabled(0, low ^ byte) ^ u16::from(high)
+    halves::near(low ^ byte) ^ u16::from(high)
 }
 
 // The CRC-16 register with all of these bytes, first to last: four at a time, and those that are left.
@@ -76,10 +76,7 @@ fn crc16_four(crc: u16, a: u8, b: u8, c: u8, d: u8) -> u16
     ensures { result ≡ crc16_run crc (a ∷ b ∷ c ∷ d ∷ []) }
 {
     let [low, high] = crc.to_le_bytes();
-    halves::byte_tabled(2, c)
-        ^ halves::byte_tabled(0, d)
-        ^ halves::byte_tabled(4, high ^ b)
-        ^ halves::byte_tabled(6, low ^ a)
+    halves::far(0, c) ^ halves::near(d) ^ halves::far(2, high ^ b) ^ halves::far(4, low ^ a)
 }
 
 // The first of the two bytes that are sent: the low one, inverted. Two functions: docs/PROMISES.md names both.
