@@ -36,7 +36,7 @@ FAULTS = (
         "&crc.to_le_bytes()": "&crc.to_be_bytes()", "&address.to_le_bytes()": "&address.to_be_bytes()",
         "image::word(lent, at, 2) as u16": "(image::word(lent, at + 1, 1) + 256 * image::word(lent, at, 1)) as u16"}),
     Fault("mark 2 and overdrive 1, in packing and unpacking", PACKING, {
-        "Mode::Marked => 1": "Mode::Marked => 2", "Mode::Overdrive => 2": "Mode::Overdrive => 1",
+        "self as u8": "match self { Mode::Plain => 0, Mode::Marked => 2, Mode::Overdrive => 1, Mode::OverdriveMarked => 3 }",
         "1 => Mode::Marked": "2 => Mode::Marked", "2 => Mode::Overdrive,": "1 => Mode::Overdrive,"}),
     Fault("any version", PACKING, {"image::peek(lent, 0) == VERSION": "image::peek(lent, 0) != 0"}),
     Fault("any byte for PF", PACKING, {"        && codes::is_own::<bool>(image::peek(lent, 14))\n": ""}),
