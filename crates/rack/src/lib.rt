@@ -33,10 +33,11 @@ pub fn is_rack(records: &[u8], count: u8) -> bool
 pub fn unpack(records: &[u8], count: u8) -> Board
     ensures { result ≡ board_in records.now count }
 {
-    // No `array::from_fn`: what it makes is cleared and copied once more, a fifth of an event of one tag.
+    // Over the records that are there alone: `array::from_fn` clears and copies all seven once more, which is two fifths of the time of an event
+    // of one tag.
     let mut tags = [record::fresh(0, 0); 7];
-    for (place, tag) in tags.iter_mut().enumerate() {
-        *tag = tag_at(records, place as u8);
+    for place in 0..whole(records.len(), 7) {
+        tags[place] = tag_at(records, place as u8);
     }
     Board { tags, count }
 }

@@ -9,7 +9,7 @@ use Rattle.bits.specs.Parts.{part_lent, length_part}
 use Rattle.bits.specs.Stores.{sets_join}
 use Rattle.board.specs.declared.Board.{Board}
 use Rattle.board.specs.Board.{tag_at, is_count}
-use Rattle.board.specs.Board.Laws.{places_some}
+use Rattle.board.specs.Board.Laws.{places_of, places_some}
 use Rattle.packing.specs.Packing.{packed, is_packed, unpacked}
 use Rattle.record.specs.Record.{fresh_tag}
 use Rattle.rack.specs.Rack.{has_room, record_at, is_rack, seven, whole_in, rack_from}
@@ -59,6 +59,11 @@ seven_at f d (suc (suc (suc (suc (suc (suc (suc i))))))) h = absurd (omega (arit
 pub whole_some : (size count : ℕ) → whole_in size count ≤ 7
 unfolding whole_in
 whole_some size count = omega (arith, places_some count)
+
+-- a place past those that are wholly there has less than a record
+pub whole_rest : (size place : ℕ) → place < 7 → whole_in size 7 ≤ place → size < (place + 1) * 80
+unfolding whole_in places_of
+whole_rest size place less past = omega (arith, less, past)
 
 -- ---- asking
 
